@@ -58,6 +58,7 @@ pub fn some_outside(size: JobSize, table: &[PieceEntry], layout: &[PlaceEntry]) 
 }
 
 // The causes of the layout's placements: 9, also where the call names a wrong piece, and 10.
+#[tactic(auto, unfolding(model::specs::Refusal::unless))]
 fn place_causes(
     size: JobSize,
     table: &[PieceEntry],
@@ -140,7 +141,8 @@ fn some_weight_wrong(weights: &[u32]) -> bool
         if weights[k] == 0 {
             return true;
         }
-        if WEIGHT_BOUND < weights[k] {
+        let heavy = WEIGHT_BOUND < weights[k];
+        if heavy {
             return true;
         }
         k += 1;

@@ -1,11 +1,11 @@
 -- The outcome of the call for all lines, by what the check of the layout answers. Assumes nothing.
-use Rattle.list_laws.proofs.Kit.{◌∙◌, ◌≡◌, refl, sym, List, [], ◌++◌, ◌∷◌, ℕ, arith, length}
+use Rattle.list_laws.proofs.Kit.{◌∙◌, ◌≡◌, ap, refl, sym, List, [], ◌++◌, ◌∷◌, ℕ, arith, length}
 use Rattle.model.specs.Lent.{Lent, job_of}
 use Rattle.model.specs.Buffer.{layout_of}
 use Rattle.model.specs.Refusal.{Outcome, refused, given, unless}
 use Rattle.model.specs.Answers.{done_answer, count_answer}
 use Rattle.model.specs.Cut.{CutLine, cut_lines}
-use Rattle.model.specs.Calls.{layout_causes, check_causes, check_call, at_least, cut_lines_call}
+use Rattle.model.specs.Calls.{layout_causes, check_causes, check_call, at_least, cut_lines_call, lines_after}
 use Rattle.model.specs.declared.Refusal.{Refusal}
 use Rattle.model.specs.declared.DoneAnswer.{DoneAnswer}
 use Rattle.model.specs.declared.NumberAnswer.{NumberAnswer}
@@ -34,6 +34,16 @@ module _ (l : Lent) (es : List (List ℕ)) where
       → cut_lines_call l es room ≡ in_room (cut_lines (job_of l) (layout_of es)) room
   lines_passed room e = lines_after_check room ∙ none_then (check_causes l es) _ _ (check_none l es e)
 
+  -- a refused check is the call's answer
+  pub refused_answer : (room : ℕ) (r : Refusal) → DoneAnswer.Refused r ≡ done_answer (check_call l es)
+      → NumberAnswer.Refused r ≡ count_answer (cut_lines_call l es room)
+  refused_answer room r e = sym (ap count_answer (lines_refused room r e))
+
+  -- and leaves the line buffer as it was
+  pub refused_lines : (room : ℕ) (r : Refusal) (lines : List (List ℕ)) → DoneAnswer.Refused r ≡ done_answer (check_call l es)
+      → lines ≡ lines_after lines (cut_lines_call l es room)
+  refused_lines room r lines e = sym (ap (lines_after lines) (lines_refused room r e))
+
   -- and the job and the layout are checked
   pub passed_laid : DoneAnswer.Done ≡ done_answer (check_call l es) → LaidApart l es
   unfolding check_call layout_causes
@@ -51,3 +61,8 @@ pub lines_answered : (l : Lent) (es : List (List ℕ)) (room : ℕ) {r : NumberA
     → (n : ℕ) → r ≡ NumberAnswer.Number n → CutListClaims l es
 lines_answered l es room {r} e n told =
     let w = count_given (cut_lines_call l es room) n (sym told ∙ e) in (cut_given l es room w.0 w.1).1
+
+-- and so does one whose list has room or not, behind a check that passes
+pub room_answered : (l : Lent) (es : List (List ℕ)) (room : ℕ) {r : NumberAnswer} → DoneAnswer.Done ≡ done_answer (check_call l es)
+    → r ≡ count_answer (in_room (cut_lines (job_of l) (layout_of es)) room) → (n : ℕ) → r ≡ NumberAnswer.Number n → CutListClaims l es
+room_answered l es room e told = lines_answered l es room (told ∙ sym (ap count_answer (lines_passed l es room e)))

@@ -35,7 +35,8 @@ pub enum StepAnswer {
 fn pitch_wrong(pitch: u32) -> bool
     ensures { result ≡ not (up_to pitch_bound pitch) }
 {
-    if pitch == 0 {
+    let zero = pitch == 0;
+    if zero {
         return true;
     }
     PITCH_BOUND < pitch

@@ -60,7 +60,8 @@ pub fn step_of(lines: &[LineEntry], pitch: u32, step: u64) -> CutStep
         return CutStep::Done;
     }
     let entry = lines[line];
-    if step % 2 == 0 {
+    let even = step % 2 == 0;
+    if even {
         return lift_to(entry, pitch);
     }
     cut_to(entry, pitch)

@@ -133,7 +133,8 @@ fn read_pieces(text: &[u8], j: JobHead, table: &mut [PieceEntry], pixels: &mut [
             if table.len() < size.count {
                 return JobAnswer::Refused(refusal(7, 0));
             }
-            if pixels.len() < area {
+            let short = pixels.len() < area;
+            if short {
                 return JobAnswer::Refused(refusal(7, 0));
             }
             fill_pieces(text, j, table, pixels);

@@ -191,7 +191,8 @@ pub fn check_job(size: JobSize, table: &[PieceEntry], pixels: &[u8]) -> bool
     }
     let count = size.count;
     let total = pixel_start(table, count);
-    if pixels.len() < total {
+    let short = pixels.len() < total;
+    if short {
         return false;
     }
     if !all_bits(pixels, total) {

@@ -97,7 +97,8 @@ fn job_ranges(j: JobHead) -> JobLineAnswer
     ensures { (result ≡ job_answer (unless (job_line_causes (job_line_of j)) (job_line_of j))) × (head_count result ≤ piece_bound) }
 {
     let size = j.size;
-    if !numbers_in_range(size) {
+    let wrong = !numbers_in_range(size);
+    if wrong {
         return JobLineAnswer::Refused(refusal(2, 1));
     }
     if AREA_BOUND < size.rows * size.columns {
@@ -169,7 +170,8 @@ fn piece_ranges(j: JobHead, i: usize, area: usize, h: PieceHead, line: usize) ->
     if j.size.rows < h.rows {
         return PieceLineAnswer::Refused(refusal(6, line));
     }
-    if AREA_BOUND < area + h.columns * h.rows {
+    let above = AREA_BOUND < area + h.columns * h.rows;
+    if above {
         return PieceLineAnswer::Refused(refusal(4, line));
     }
     PieceLineAnswer::Line(h)

@@ -32,13 +32,16 @@ pub fn set_lock(
     if !job_check::check_job(size, table, pixels) {
         return refused(8);
     }
-    if CUTTERS_STATION < station {
+    let unknown = CUTTERS_STATION < station;
+    if unknown {
         return refused(2);
     }
-    if size.count <= piece {
+    let missing = size.count <= piece;
+    if missing {
         return refused(9);
     }
-    if station == PLANNERS_STATION {
+    let planner = station == PLANNERS_STATION;
+    if planner {
         return refused(16);
     }
     lock_piece(table, piece);

@@ -188,7 +188,8 @@ pub fn push_all(
             columns,
             column_spans,
         );
-        if moved == 0 {
+        let at_rest = moved == 0;
+        if at_rest {
             return slid;
         }
         slid += moved;

@@ -99,7 +99,8 @@ fn turn_on_line(i: usize, number: usize, degrees: usize) -> TurnAnswer
     if number != i {
         return TurnAnswer::Unknown;
     }
-    if 270 < degrees {
+    let above = 270 < degrees;
+    if above {
         return TurnAnswer::Unknown;
     }
     layout_places::turn_of(degrees as u16)
@@ -207,7 +208,8 @@ fn read_placements(
         line += 1;
         i += 1;
     }
-    if at != text.len() {
+    let more = at != text.len();
+    if more {
         return DoneAnswer::Refused(refused_in(line, 1));
     }
     DoneAnswer::Done

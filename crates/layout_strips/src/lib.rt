@@ -56,7 +56,8 @@ pub fn draw(
     ensures kept { Kept direction table.now pixels.now layout.now store.new spans.new }
     ensures made { (span_made spans.new i ≢ 0) × ((m : ℕ) → span_made spans.old m ≢ 0 → span_made spans.new m ≢ 0) }
 {
-    if spans[i][2] != 0 {
+    let made = spans[i][2] != 0;
+    if made {
         return;
     }
     let turn = place_at(layout, i).turn;
@@ -188,7 +189,8 @@ pub fn penalty_of(
         rows,
         row_spans,
     );
-    if along_rows == 0 {
+    let apart = along_rows == 0;
+    if apart {
         return 0;
     }
     depth_of(

@@ -97,7 +97,8 @@ pub fn write_layout(
         return NumberAnswer::Refused(refusal);
     }
     let needed = put_layout(size, layout, &mut text[..0]);
-    if text.len() < needed {
+    let short = text.len() < needed;
+    if short {
         return NumberAnswer::Refused(plain_refusal(7));
     }
     put_layout(size, layout, text);

@@ -1,39 +1,39 @@
 -- Document 01, 'When a call says no', and document 02, points 2 (the cut list), 3 (the preview of a move), 4 (the gap), 6 (locks) and 7 (pushing
--- left and down): what each public call gives and leaves in lent memory, and its causes of refusal in their order. How a job or a layout is read line by line stands in JobText and
--- LayoutText. Assumes nothing.
+-- left and down): what each public call gives and leaves in lent memory, and its causes of refusal in their order. How a job or a layout is read
+-- line by line stands in JobText and LayoutText. Assumes nothing.
 --
 -- The refusals of each call, in their order; places are 0 unless named. Refusal gives each number its name.
 --   read a job             by line (first place): 1, 2, then 3 (job line) or 6, 4 (piece line); 5 at a piece's last row;
---                          1 for anything after the last line; then 7                      JobText, readJob
---   strips                 8 the job, 9, 7                                                 stripsCall
---   stretch, its refusal   8 the job, 9, 8 a store                                         stretchCall, stretchNumber
---   no-fit row, column     8 the job, 9, 8 a stretch, 7                                    noFitCall
---   rebuild                2, 8, 7                                                         rebuildCall
---   conflict, depths       8, 7, 9, 10                                                     shareCall, depthCall
---   penalty                8, 7, 9, 10                                                     penaltyCall
---   weighted sum           8, 7, 2, 9, 10                                                  weightedSumCall
---   plain sum              8, 7, 9, 10                                                     plainSumCall
---   used length            8, 7, 9, 10                                                     usedLengthCall
---   preview of a move      8, 7, 2, 9, 10; 9 and 10 also of the new placement              previewCall
---   line search            8, 7, 2, 9, 10, 11                                              searchCall
---   descent, guided run    8, 7, 2, 9, 10                                                  descentCall, guidedCall
---   set a lock             8, 2 the station, 9, 16                                         setLockCall
---   start                  8, 7, 9, 10 of the locked placements                            startCall
---   write a layout         8, 7 the layout's length, 9, 10, 7 the text buffer              writeLayoutCall
+--                          1 for anything after the last line; then 7                      JobText, read_job
+--   strips                 8 the job, 9, 7                                                 strips_call
+--   stretch, its refusal   8 the job, 9, 8 a store                                         stretch_call, stretch_number
+--   no-fit row, column     8 the job, 9, 8 a stretch, 7                                    no_fit_call
+--   rebuild                2, 8, 7                                                         rebuild_call
+--   conflict, depths       8, 7, 9, 10                                                     share_call, depth_call
+--   penalty                8, 7, 9, 10                                                     penalty_call
+--   weighted sum           8, 7, 2, 9, 10                                                  weighted_sum_call
+--   plain sum              8, 7, 9, 10                                                     plain_sum_call
+--   used length            8, 7, 9, 10                                                     used_length_call
+--   preview of a move      8, 7, 2, 9, 10; 9 and 10 also of the new placement              preview_call
+--   line search            8, 7, 2, 9, 10, 11                                              search_call
+--   descent, guided run    8, 7, 2, 9, 10                                                  descent_call, guided_call
+--   set a lock             8, 2 the station, 9, 16                                         set_lock_call
+--   start                  8, 7, 9, 10 of the locked placements                            start_call
+--   write a layout         8, 7 the layout's length, 9, 10, 7 the text buffer              write_layout_call
 --   read a layout          8; by line (first place): 1, 2, 9, 10; 1 for anything after the last line; then 7
---                                                                                          readLayoutCall; LayoutText, readLayout
---   check a layout         8, 7, 9, 10, 12 (both places: the pair)                         checkCall
---   push left and down     8, 7, 9, 10, 12 (both places: the pair)                         compactCall
+--                                                                                          read_layout_call; LayoutText, read_layout
+--   check a layout         8, 7, 9, 10, 12 (both places: the pair)                         check_call
+--   push left and down     8, 7, 9, 10, 12 (both places: the pair)                         compact_call
 --   cut lines              8, 7 the layout's length, 9, 10, 12 (the pair), 7 the line buffer
---                                                                                          cutLinesCall
---   cut step               8, 7, 2 the pitch, 9, 10, 12 (the pair)                         cutStepCall
---   line step              2 the pitch                                                     lineStepCall
---   fresh sheet            8, 7                                                            freshCall
---   lay                    8 the job, 7, 8 the sheet, 9, 13, 10                            layCall; Cover, layCauses
---   withdraw               8 the job, 7, 8 the sheet, 9, 14, 15                            withdrawCall; Cover, withdrawCauses
+--                                                                                          cut_lines_call
+--   cut step               8, 7, 2 the pitch, 9, 10, 12 (the pair)                         cut_step_call
+--   line step              2 the pitch                                                     line_step_call
+--   fresh sheet            8, 7                                                            fresh_call
+--   lay                    8 the job, 7, 8 the sheet, 9, 13, 10                            lay_call; Cover, lay_causes
+--   withdraw               8 the job, 7, 8 the sheet, 9, 14, 15                            withdraw_call; Cover, withdraw_causes
 --   the program            in its text: 7 (line 0) for too long an input, else the reader's
---                                                                                          Program, programText
---                          7 where a lent output buffer is shorter than the text           Program, programCall
+--                                                                                          Program, program_text
+--                          7 where a lent output buffer is shorter than the text           Program, program_call
 use Rattle.std.specs.Prelude.{Bool, true, false, not, ◌&&◌, ◌||◌, List, [], ◌∷◌, ◌++◌, map, ℕ, ◌*◌, ltb, eqb, ℤ, length, get_or, set}
 use Rattle.std.proofs.Math.Option.{Option, none, some}
 use Rattle.model.specs.Bounded.{any_below}

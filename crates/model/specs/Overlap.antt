@@ -65,7 +65,7 @@ conflict_penalty g s u t v = min (conflict_depth g Horizontal s u t v) (conflict
 
 -- ── no-fit rows and columns ──
 
--- the largest offset between two pieces that conflict, 262; every offset lies between -offsetBound and offsetBound
+-- the largest offset between two pieces that conflict, 262; every offset lies between -offset_bound and offset_bound
 abbrev pub offset_bound : ℕ
 offset_bound = side_bound - 1 + gap_bound
 
@@ -78,7 +78,7 @@ abbrev pub down : ℤ → ℕ
 down (pos n) = 0
 down (negsuc n) = suc n
 
--- t's corner minus s's corner is k - offsetBound along the direction and the offset across it, and they conflict
+-- t's corner minus s's corner is k - offset_bound along the direction and the offset across it, and they conflict
 unfoldable pub no_fit_at : ℕ → Direction → Shape → Shape → ℤ → ℕ → Bool
 no_fit_at g d s t across-offset k =
     conflict g s (point d offset_bound (down across-offset)) t (point d k (up across-offset))

@@ -79,7 +79,7 @@ conflict_offset g d s u t v = (
       conflict_from g s u t v (near_over d g s u t v w.p w.q w.of_first w.of_second a.1 a.0 c.1 c.0),
 )
 
--- the biased test passes at k exactly when k - offsetBound is an offset of two pixels
+-- the biased test passes at k exactly when k - offset_bound is an offset of two pixels
 pub no_fit_at_lem : (g : ℕ) (d : Direction) (s t : Shape) (o : ℤ) (k : ℕ) → (no_fit_at g d s t o k ≡ true) ↔ PixelOffset g d s t (sub_ℕ k offset_bound) o
 unfolding no_fit_at
 no_fit_at_lem g d s t o k =

@@ -117,7 +117,8 @@ fn joined(covered: Covered, low: u32, high: u32) -> Covered
     if high < covered.low {
         return Covered { low, high };
     }
-    if covered.high < low {
+    let apart = covered.high < low;
+    if apart {
         return Covered { low, high };
     }
     Covered {
@@ -133,7 +134,8 @@ fn cover(marks: &mut [u64], covered: Covered, low: u32, high: u32) -> Covered
     ensures covers { Covers result marks.new }
 {
     if covered.low <= low {
-        if high <= covered.high {
+        let within = high <= covered.high;
+        if within {
             return covered;
         }
     }

@@ -56,7 +56,8 @@ fn put_line(
     let mut marks = [0u64; OFFSET_WORDS];
     pair_nofit::mark_shifts(a, u, b, v, gap, &mut marks);
     let needed = put_runs(&marks, &mut out[..0]);
-    if out.len() < needed {
+    let short = out.len() < needed;
+    if short {
         return NumberAnswer::Refused(plain_refusal(7));
     }
     NumberAnswer::Number(put_runs(&marks, out) as u64)

@@ -158,7 +158,8 @@ fn print_text(input: &[u8], text: &mut [u8], workspace: &mut [u64]) -> usize
     requires { output_bound ≤ length text.old }
     ensures { Written text.old 0 (program_text input.now) output_bound result text.new }
 {
-    if INPUT_BOUND < input.len() {
+    let long = INPUT_BOUND < input.len();
+    if long {
         return put_refusal_line(text, plain_refusal(7));
     }
     read_and_print(input, text, workspace)
@@ -185,7 +186,8 @@ pub fn print_run(input: &[u8], output: &mut [u8], workspace: &mut [u64]) -> Numb
     let mut text = [0u8; OUTPUT_BOUND];
     let used = words_used(output.len(), workspace.len());
     let count = print_text(input, &mut text, &mut workspace[..used]);
-    if output.len() < count {
+    let short = output.len() < count;
+    if short {
         return NumberAnswer::Refused(plain_refusal(7));
     }
     put_word(output, 0, &text[..count]);

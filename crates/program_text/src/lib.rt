@@ -24,7 +24,8 @@ fn put_end_word(text: &mut [u8], at: usize, sum: u64) -> usize
     requires { at ≤ output_bound }
     ensures { Written text.old at (end_word sum) 9 result text.new }
 {
-    if sum == 0 {
+    let clear = sum == 0;
+    if clear {
         return put_word(text, at, b"end,clear");
     }
     put_word(text, at, b"end,open")

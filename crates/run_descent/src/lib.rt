@@ -83,10 +83,12 @@ pub fn descend(
         if at.sum == 0 {
             return end_at(End::Clear, at);
         }
-        if at.quiet == count {
+        let settled = at.quiet == count;
+        if settled {
             return end_at(End::Settled, at);
         }
-        if at.made == budget {
+        let spent = at.made == budget;
+        if spent {
             return end_at(End::Spent, at);
         }
         at = step(

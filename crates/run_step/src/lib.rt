@@ -211,7 +211,8 @@ pub fn step(
     let trial = trial_at(trials, place);
     let next = next_place(trials.len(), place);
     let present = row_sum(penalties, weights, run.size.count, trial.piece);
-    if present == 0 {
+    let still = present == 0;
+    if still {
         return after_quiet(at, next);
     }
     let Tried::Moved(found) = try_trial(

@@ -49,7 +49,8 @@ fn class_of(size: JobSize, table: &[PieceEntry], pixels: &[u8], i: usize) -> usi
 {
     let mut k = 0;
     while k < i {
-        if equal_pieces(size, table, pixels, i, k) {
+        let same = equal_pieces(size, table, pixels, i, k);
+        if same {
             return k;
         }
         k += 1;

@@ -1,5 +1,5 @@
 -- Document 01's order of pairs, (0,1), (0,2) and so on, by position: the pairs with first number i begin at `row_start n i`, and (i, k) has
--- position rowStart n i + (k - i - 1). A loop that takes i ascending and k ascending from i + 1 on visits the positions 0, 1, 2, ..,
+-- position row_start n i + (k - i - 1). A loop that takes i ascending and k ascending from i + 1 on visits the positions 0, 1, 2, ..,
 -- so a counter that it raises by 1 is the position of the pair at hand. Assumes nothing.
 use Rattle.list_laws.proofs.Kit.{◌∙◌, ◌≡◌, ap, refl, sym, Bool, false, true, none, some, List, [], ◌∷◌, ◌*◌, ◌+◌, ◌-◌, ◌<◌, ◌≤◌, suc, zero, ℕ, add-one}
 use Rattle.list_laws.proofs.Kit.{mul-suc, suc-mul, arith, get_or-append, drop, get_or, length, length-append, drop_at, drop-drop, get_or-drop}

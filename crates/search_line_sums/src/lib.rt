@@ -90,7 +90,8 @@ pub fn add_line(sums: &mut [u32], low: usize, line: &[u8], weight: u32)
     requires fact_3 { ((a : ℕ) → get_or sums.old a 0 ≤ 1073741824) }
     ensures { LineAdded weight low line.now sums.old sums.new }
 {
-    if weight == 1 {
+    let once = weight == 1;
+    if once {
         add_once(sums, low, line);
         return;
     }

@@ -593,7 +593,8 @@ pub fn keep_line(
     let slot = slot_of(direction, two, slots);
     let key = key_of(direction, two);
     let held = begin_of(lines, slots, slot);
-    if units_of(lines, slots, slot) != 0 {
+    let made = units_of(lines, slots, slot) != 0;
+    if made {
         if key_at(lines, held) == key {
             return held + KEY_BYTES;
         }

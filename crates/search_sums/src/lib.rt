@@ -128,7 +128,8 @@ fn raise_pair(weights: &mut [u32], at: usize, penalty: u8)
     if penalty == 0 {
         return;
     }
-    if weights[at] < WEIGHT_BOUND {
+    let below = weights[at] < WEIGHT_BOUND;
+    if below {
         weights[at] += 1;
     }
 }

@@ -47,7 +47,8 @@ fn one_less(count: u8) -> u8
 fn moved_count(count: u8, on: bool, change: Change) -> u8
     ensures { result ≡ moved change on count }
 {
-    if !on {
+    let off = !on;
+    if off {
         return count;
     }
     match change {

@@ -94,7 +94,8 @@ pub extern "C" fn sigbrol_stretch<'a>(
         direction,
     );
     let length = strips.len();
-    if length != 0 {
+    let given = length != 0;
+    if given {
         *first = start_of(row_starts, column_starts, piece, vertical);
     }
     length

@@ -74,7 +74,7 @@ pub fn stretch<'a>(
 ) -> &'a [StripEntry]
     ensures { result.now ≡ stretch_given (stretch_call (lent_by size table.now pixels.now) turns.now (stores_by row_strips.now row_starts.now column_strips.now column_starts.now) piece direction) }
 {
-    if stretch_refusal(
+    let refused = stretch_refusal(
         size,
         table,
         pixels,
@@ -85,8 +85,8 @@ pub fn stretch<'a>(
         column_starts,
         piece,
         direction,
-    ) != 0
-    {
+    ) != 0;
+    if refused {
         return &row_strips[..0];
     }
     match direction {

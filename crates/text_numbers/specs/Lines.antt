@@ -9,8 +9,8 @@ abbrev pub end_byte : ℕ → ℕ
 end_byte zero = line_end
 end_byte (suc behind) = comma
 
--- the end bytes of the last k fields of a line; three are the model's threeFields, four its
--- fourFields, five its fiveFields
+-- the end bytes of the last k fields of a line; three are the model's three_fields, four its
+-- four_fields, five its five_fields
 abbrev pub field_ends : ℕ → List ℕ
 field_ends zero = []
 field_ends (suc k) = end_byte k ∷ field_ends k

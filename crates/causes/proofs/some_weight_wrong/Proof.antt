@@ -20,14 +20,14 @@ returns-then-weights-k-eq0 c =
     let at-start : tie.Start invariant-loop-k decreases-loop-k = search in
     sym (at-loop.loop-k.invariant.1 ∙ weight_zero at-start.args.weights.now at-loop.loop-k.k c.loop-k-test.true c.if-weights-k-eq0.true)
 
-returns-then-weights-k-gt-WEIGHT_BOUND : tie.Need-returns-then-weights-k-gt-WEIGHT_BOUND invariant-loop-k decreases-loop-k
-returns-then-weights-k-gt-WEIGHT_BOUND c =
+returns-then-heavy : tie.Need-returns-then-heavy invariant-loop-k decreases-loop-k
+returns-then-heavy c =
     let in-loop : tie.In-loop-k invariant-loop-k decreases-loop-k = search in
     let at-loop : tie.At-loop-k invariant-loop-k decreases-loop-k = search in
     let at-start : tie.Start invariant-loop-k decreases-loop-k = search in
     sym (at-loop.loop-k.invariant.1
     ∙ weight_large at-start.args.weights.now at-loop.loop-k.k in-loop.loop-k-test.true c.if-weights-k-eq0.false
-    (omega (arith, c.if-weights-k-gt-WEIGHT_BOUND.true)))
+    (omega (arith, c.if-heavy.true)))
 
 loop-k-preserved : tie.Need-loop-k-preserved invariant-loop-k decreases-loop-k
 loop-k-preserved c =
@@ -37,7 +37,7 @@ loop-k-preserved c =
       omega (arith, in-loop.loop-k-test.true),
       at-loop.loop-k.invariant.1
           ∙ weight_right at-start.args.weights.now at-loop.loop-k.k in-loop.loop-k-test.true c.if-weights-k-eq0.false
-          (omega (arith, c.if-weights-k-gt-WEIGHT_BOUND.false)),
+          (omega (arith, c.if-heavy.false)),
     )
 
 returns : tie.Need-returns invariant-loop-k decreases-loop-k
@@ -48,4 +48,4 @@ pub some_weight_wrong_spec : {M : Type 1} → statement M
 some_weight_wrong_spec =
     tie.close (tie.spec
     invariant-loop-k decreases-loop-k loop-k-init (search rules) (search rules) returns-then-weights-k-eq0 (search rules) (search rules)
-    returns-then-weights-k-gt-WEIGHT_BOUND (search rules) (search rules) loop-k-preserved returns)
+    returns-then-heavy (search rules) (search rules) loop-k-preserved returns)

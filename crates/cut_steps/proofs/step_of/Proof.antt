@@ -15,26 +15,26 @@ returns-then-lines-line c =
 below : (e : tie.Else-lines-line) → let s : tie.Start = search in s.args.step / 2 < length s.args.lines.now
 below e = omega arith
 
-returns-then-step-eq0 : tie.Need-returns-then-step-eq0
-returns-then-step-eq0 c =
+returns-then-even : tie.Need-returns-then-even
+returns-then-even c =
     let s : tie.Start = search in
     let e : tie.Else-lines-line = search in
-    let even : tie.Then-step-eq0 = search in
+    let even : tie.Then-even = search in
     let a = s.args in (
-      c.lift_to.ensures.0 ∙ sym (ap (step_in a.pitch) (even_step a.lines.now a.step (below e) even.if-step-eq0.true)),
-      even_exact a.lines.now a.pitch a.step (below e) even.if-step-eq0.true c.lift_to.ensures.1,
+      c.lift_to.ensures.0 ∙ sym (ap (step_in a.pitch) (even_step a.lines.now a.step (below e) even.if-even.true)),
+      even_exact a.lines.now a.pitch a.step (below e) even.if-even.true c.lift_to.ensures.1,
     )
 
 returns : tie.Need-returns
 returns c =
     let s : tie.Start = search in
     let e : tie.Else-lines-line = search in
-    let odd : tie.Else-step-eq0 = search in
+    let odd : tie.Else-even = search in
     let a = s.args in (
-      c.cut_to.ensures.0 ∙ sym (ap (step_in a.pitch) (odd_step a.lines.now a.step (below e) odd.if-step-eq0.false)),
-      odd_exact a.lines.now a.pitch a.step (below e) odd.if-step-eq0.false c.cut_to.ensures.1,
+      c.cut_to.ensures.0 ∙ sym (ap (step_in a.pitch) (odd_step a.lines.now a.step (below e) odd.if-even.false)),
+      odd_exact a.lines.now a.pitch a.step (below e) odd.if-even.false c.cut_to.ensures.1,
     )
 
 pub step_of_spec : {M : Type 1} → statement M
 step_of_spec = tie.close (tie.spec
-    returns-then-lines-line (search rules) (search rules) (search rules) returns-then-step-eq0 (search rules) returns)
+    returns-then-lines-line (search rules) (search rules) (search rules) returns-then-even (search rules) returns)

@@ -7,17 +7,17 @@ use Rattle.job_limits.proofs.Ranges.{sheet_small, few_count}
 use Rattle.job_lines.proofs.job_ranges.Statement.{statement}
 use Rattle.job_lines.proofs.job_ranges.Tie as tie
 
-returns-then-not-numbers_in_range : tie.Need-returns-then-not-numbers_in_range
+returns-then-wrong : tie.Need-returns-then-wrong
 unfolding unless
-returns-then-not-numbers_in_range c =
-    let asked : tie.After-numbers_in_range = search in
-    (ap job.Refused c.refusal.ensures ∙ simp (sym asked.numbers_in_range.ensures ∙ c.before.if-not-numbers_in_range.true, unless), omega arith)
+returns-then-wrong c =
+    let asked : tie.After-numbers_in_range-wrong = search in
+    (ap job.Refused c.refusal.ensures ∙ simp (sym asked.numbers_in_range-wrong.ensures ∙ c.before.if-wrong.true, unless), omega arith)
 
 -- the numbers pass where the first test is passed
-ranges : (p : tie.Else-not-numbers_in_range) →
+ranges : (p : tie.Else-wrong) →
     let at-start' : tie.Start = search in
     numbers_in_range at-start'.args.j.size ≡ true
-ranges p = let asked : tie.After-numbers_in_range = search in sym asked.numbers_in_range.ensures ∙ p.if-not-numbers_in_range.false
+ranges p = let asked : tie.After-numbers_in_range-wrong = search in sym asked.numbers_in_range-wrong.ensures ∙ p.if-wrong.false
 
 overflow_mul-size : tie.Need-overflow_mul-size
 overflow_mul-size c =
@@ -40,4 +40,4 @@ pub job_ranges_spec : {M : Type 1} → statement M
 job_ranges_spec =
     tie.close
     (tie.spec
-    (search rules) (search rules) returns-then-not-numbers_in_range overflow_mul-size (search rules) returns-then-size-gt-AREA_BOUND returns)
+    (search rules) (search rules) returns-then-wrong overflow_mul-size (search rules) returns-then-size-gt-AREA_BOUND returns)

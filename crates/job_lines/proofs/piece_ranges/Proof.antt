@@ -59,29 +59,29 @@ returns-then-j-h-2 c =
     let e5 = lt-ltb _ _ c.before.if-j-h-2.true in
     (ap piece.Refused c.refusal-then-j-h-2.ensures ∙ simp (number search, sides search, lock search, e4, e5, unless), tt)
 
-overflow_mul-h : tie.Need-overflow_mul-h
-overflow_mul-h c =
+overflow_mul-above : tie.Need-overflow_mul-above
+overflow_mul-above c =
     let at-start : tie.Start = search in
     let h = at-start.args.h in
     let m = area_of h.columns h.rows h.turns (sides search) in
     omega arith
 
-overflow_add-area : tie.Need-overflow_add-area
-overflow_add-area c =
+overflow_add-above : tie.Need-overflow_add-above
+overflow_add-above c =
     let at-start : tie.Start = search in
     let h = at-start.args.h in
     let m = area_of h.columns h.rows h.turns (sides search) in
     omega arith
 
-returns-then-area-h-gt-AREA_BOUND : tie.Need-returns-then-area-h-gt-AREA_BOUND
+returns-then-above : tie.Need-returns-then-above
 unfolding unless
-returns-then-area-h-gt-AREA_BOUND c =
+returns-then-above c =
     let at-else4 : tie.Else-j-h = search in
     let at-else5 : tie.Else-j-h-2 = search in
     let e4 = le-ltb _ _ at-else4.if-j-h.false in
     let e5 = le-ltb _ _ at-else5.if-j-h-2.false in
-    let e6 = lt-ltb _ _ c.before.if-area-h-gt-AREA_BOUND.true in
-    (ap piece.Refused c.refusal-then-area-h-gt-AREA_BOUND.ensures ∙ simp (number search, sides search, lock search, e4, e5, e6, unless), tt)
+    let e6 = lt-ltb _ _ c.before.if-above.true in
+    (ap piece.Refused c.refusal-then-above.ensures ∙ simp (number search, sides search, lock search, e4, e5, e6, unless), tt)
 
 returns : tie.Need-returns
 unfolding unless
@@ -90,12 +90,12 @@ returns c =
     let at-else5 : tie.Else-j-h-2 = search in
     let e4 = le-ltb _ _ at-else4.if-j-h.false in
     let e5 = le-ltb _ _ at-else5.if-j-h-2.false in
-    let e6 = le-ltb _ _ c.if-area-h-gt-AREA_BOUND.false in
-    (simp (number search, sides search, lock search, e4, e5, e6, unless), (sides search, leb-true _ _ (lock search), c.if-area-h-gt-AREA_BOUND.false))
+    let e6 = le-ltb _ _ c.if-above.false in
+    (simp (number search, sides search, lock search, e4, e5, e6, unless), (sides search, leb-true _ _ (lock search), c.if-above.false))
 
 pub piece_ranges_spec : {M : Type 1} → statement M
 piece_ranges_spec =
     tie.close (tie.spec
     (search rules) returns-then-h-i (search rules) (search rules) returns-then-not-sides_in_range (search rules) (search rules)
-    returns-then-not-lock_in_range (search rules) returns-then-j-h (search rules) returns-then-j-h-2 overflow_mul-h overflow_add-area (search rules)
-    returns-then-area-h-gt-AREA_BOUND returns)
+    returns-then-not-lock_in_range (search rules) returns-then-j-h (search rules) returns-then-j-h-2 overflow_mul-above overflow_add-above (search rules)
+    returns-then-above returns)

@@ -32,10 +32,10 @@ job_well : (c : tie.Else-not-check_job) → let s : tie.Start = search in lent_w
 job_well c = sym c.before.check_job.ensures ∙ c.if-not-check_job.false
 
 -- behind the second the station is the planner's or the cutter's
-station-known : (c : tie.Else-station-gt-CUTTERS_STATION) → let s : tie.Start = search in ltb cutters_station s.args.station ≡ false
+station-known : (c : tie.Else-unknown) → let s : tie.Start = search in ltb cutters_station s.args.station ≡ false
 station-known c =
     let s : tie.Start = search in
-    let few = c.if-station-gt-CUTTERS_STATION.false in
+    let few = c.if-unknown.false in
     le-ltb cutters_station s.args.station (omega arith)
 
 returns-then-not-check_job : tie.Need-returns-then-not-check_job
@@ -46,45 +46,45 @@ returns-then-not-check_job c =
     ends (lent s) s.args.piece s.args.station (refused (plain_refusal 8)) c.refused.result s.args.table.now (rw (well, unless))
     c.refused.ensures refl
 
-returns-then-station-gt-CUTTERS_STATION : tie.Need-returns-then-station-gt-CUTTERS_STATION
+returns-then-unknown : tie.Need-returns-then-unknown
 unfolding set_lock_call unless
-returns-then-station-gt-CUTTERS_STATION c =
+returns-then-unknown c =
     let s : tie.Start = search in
     let checked : tie.Else-not-check_job = search in
-    let over = c.before.if-station-gt-CUTTERS_STATION.true in
+    let over = c.before.if-unknown.true in
     let none : ltb cutters_station s.args.station ≡ true = lt-ltb cutters_station s.args.station (omega arith) in
-    ends (lent s) s.args.piece s.args.station (refused (plain_refusal 2)) c.refused-then-station-gt-CUTTERS_STATION.result s.args.table.now
-    (rw (job_well checked, none, unless)) c.refused-then-station-gt-CUTTERS_STATION.ensures refl
+    ends (lent s) s.args.piece s.args.station (refused (plain_refusal 2)) c.refused-then-unknown.result s.args.table.now
+    (rw (job_well checked, none, unless)) c.refused-then-unknown.ensures refl
 
-returns-then-size-piece : tie.Need-returns-then-size-piece
+returns-then-missing : tie.Need-returns-then-missing
 unfolding set_lock_call unless
-returns-then-size-piece c =
+returns-then-missing c =
     let s : tie.Start = search in
     let checked : tie.Else-not-check_job = search in
-    let asked : tie.Else-station-gt-CUTTERS_STATION = search in
-    let none : ltb s.args.piece s.args.size.count ≡ false = le-ltb s.args.piece s.args.size.count c.before.if-size-piece.true in
-    ends (lent s) s.args.piece s.args.station (refused (plain_refusal 9)) c.refused-then-size-piece.result s.args.table.now
-    (rw (job_well checked, station-known asked, none, unless)) c.refused-then-size-piece.ensures refl
+    let asked : tie.Else-unknown = search in
+    let none : ltb s.args.piece s.args.size.count ≡ false = le-ltb s.args.piece s.args.size.count c.before.if-missing.true in
+    ends (lent s) s.args.piece s.args.station (refused (plain_refusal 9)) c.refused-then-missing.result s.args.table.now
+    (rw (job_well checked, station-known asked, none, unless)) c.refused-then-missing.ensures refl
 
-returns-then-station-eq-PLANNERS_STATION : tie.Need-returns-then-station-eq-PLANNERS_STATION
+returns-then-planner : tie.Need-returns-then-planner
 unfolding set_lock_call unless
-returns-then-station-eq-PLANNERS_STATION c =
+returns-then-planner c =
     let s : tie.Start = search in
     let checked : tie.Else-not-check_job = search in
-    let asked : tie.Else-station-gt-CUTTERS_STATION = search in
-    let there : tie.Else-size-piece = search in
-    let here : ltb s.args.piece s.args.size.count ≡ true = lt-ltb s.args.piece s.args.size.count there.if-size-piece.false in
-    let planner : eqb s.args.station planners_station ≡ true = eq-eqb s.args.station planners_station c.before.if-station-eq-PLANNERS_STATION.true in
-    ends (lent s) s.args.piece s.args.station (refused (plain_refusal 16)) c.refused-then-station-eq-PLANNERS_STATION.result s.args.table.now
-    (rw (job_well checked, station-known asked, here, planner, unless)) c.refused-then-station-eq-PLANNERS_STATION.ensures refl
+    let asked : tie.Else-unknown = search in
+    let there : tie.Else-missing = search in
+    let here : ltb s.args.piece s.args.size.count ≡ true = lt-ltb s.args.piece s.args.size.count there.if-missing.false in
+    let planner : eqb s.args.station planners_station ≡ true = eq-eqb s.args.station planners_station c.before.if-planner.true in
+    ends (lent s) s.args.piece s.args.station (refused (plain_refusal 16)) c.refused-then-planner.result s.args.table.now
+    (rw (job_well checked, station-known asked, here, planner, unless)) c.refused-then-planner.ensures refl
 
 lock_piece-requires : tie.Need-lock_piece-requires
 lock_piece-requires c κs =
     let s : tie.Start = search in
     let checked : tie.Else-not-check_job = search in
-    let there : tie.Else-size-piece = search in
+    let there : tie.Else-missing = search in
     let entries = (facts (lent s) (job_well checked)).entries in
-    let here = there.if-size-piece.false in
+    let here = there.if-missing.false in
     omega arith
 
 returns : tie.Need-returns
@@ -92,18 +92,18 @@ unfolding set_lock_call unless
 returns c =
     let s : tie.Start = search in
     let checked : tie.Else-not-check_job = search in
-    let asked : tie.Else-station-gt-CUTTERS_STATION = search in
-    let there : tie.Else-size-piece = search in
-    let free : tie.Else-station-eq-PLANNERS_STATION = search in
+    let asked : tie.Else-unknown = search in
+    let there : tie.Else-missing = search in
+    let free : tie.Else-planner = search in
     let locked : tie.After-lock_piece = search in
-    let here : ltb s.args.piece s.args.size.count ≡ true = lt-ltb s.args.piece s.args.size.count there.if-size-piece.false in
-    let cutter : eqb s.args.station planners_station ≡ false = ne_eqb s.args.station planners_station free.if-station-eq-PLANNERS_STATION.false in
+    let here : ltb s.args.piece s.args.size.count ≡ true = lt-ltb s.args.piece s.args.size.count there.if-missing.false in
+    let cutter : eqb s.args.station planners_station ≡ false = ne_eqb s.args.station planners_station free.if-planner.false in
     ends (lent s) s.args.piece s.args.station (given (with_lock s.args.table.now s.args.piece)) DoneAnswer.Done _
     (rw (job_well checked, station-known asked, here, cutter, unless)) refl locked.lock_piece.ensures
 
 pub set_lock_spec : {M : Type 1} → statement M
 set_lock_spec =
     tie.close (tie.spec
-    (search rules) (search rules) (search rules) returns-then-not-check_job (search rules) (search rules) returns-then-station-gt-CUTTERS_STATION
-    (search rules) (search rules) returns-then-size-piece (search rules) (search rules) returns-then-station-eq-PLANNERS_STATION lock_piece-requires
+    (search rules) (search rules) (search rules) returns-then-not-check_job (search rules) (search rules) returns-then-unknown
+    (search rules) (search rules) returns-then-missing (search rules) (search rules) returns-then-planner lock_piece-requires
     (search rules) returns)

@@ -40,15 +40,15 @@ push_each-moved-requires c κs =
     let l : tie.At-loop-size invariant-loop-size decreases-loop-size = search in
     l.loop-size.invariant.0
 
-shape_of-layout-then-moved-eq0 : tie.Need-shape_of-layout-then-moved-eq0 invariant-loop-size decreases-loop-size
-shape_of-layout-then-moved-eq0 c =
+shape_of-layout-then-at_rest : tie.Need-shape_of-layout-then-at_rest invariant-loop-size decreases-loop-size
+shape_of-layout-then-at_rest c =
     let l : tie.At-loop-size invariant-loop-size decreases-loop-size = search in
     let round : tie.After-push_each-moved invariant-loop-size decreases-loop-size = search in
     round.push_each-moved.auto.layout ∙ l.loop-size.invariant.1.0
 
-returns-then-moved-eq0 : tie.Need-returns-then-moved-eq0 invariant-loop-size decreases-loop-size
+returns-then-at_rest : tie.Need-returns-then-at_rest invariant-loop-size decreases-loop-size
 unfolding compact
-returns-then-moved-eq0 c =
+returns-then-at_rest c =
     let s : tie.Start invariant-loop-size decreases-loop-size = search in
     let l : tie.At-loop-size invariant-loop-size decreases-loop-size = search in
     let round : tie.After-push_each-moved invariant-loop-size decreases-loop-size = search in
@@ -56,8 +56,8 @@ returns-then-moved-eq0 c =
     let e = round.push_each-moved.ensures in
     let long = whole (lent s) _ _ _ _ _ l.loop-size.invariant.0 in
     let h = l.loop-size.invariant.1.1 in (
-      rest_slid j _ (pass j) (each s) _ _ _ h long _ _ e.0 e.1 c.if-moved-eq0.true,
-      rest_layout j _ (pass j) (each s) _ _ _ h long _ _ e.0 e.1 c.if-moved-eq0.true,
+      rest_slid j _ (pass j) (each s) _ _ _ h long _ _ e.0 e.1 c.if-at_rest.true,
+      rest_layout j _ (pass j) (each s) _ _ _ h long _ _ e.0 e.1 c.if-at_rest.true,
     )
 
 overflow_add-slid : tie.Need-overflow_add-slid invariant-loop-size decreases-loop-size
@@ -75,30 +75,30 @@ loop-size-smaller c =
     let s : tie.Start invariant-loop-size decreases-loop-size = search in
     let l : tie.At-loop-size invariant-loop-size decreases-loop-size = search in
     let round : tie.After-push_each-moved invariant-loop-size decreases-loop-size = search in
-    let on : tie.Else-moved-eq0 invariant-loop-size decreases-loop-size = search in
+    let on : tie.Else-at_rest invariant-loop-size decreases-loop-size = search in
     let j = job_of (lent s) in
     let e = round.push_each-moved.ensures in
     let long = whole (lent s) _ _ _ _ _ l.loop-size.invariant.0 in
-    push_falls j _ (pass j) (each s) _ _ _ l.loop-size.invariant.1.1 long _ _ e.0 e.1 on.if-moved-eq0.false
+    push_falls j _ (pass j) (each s) _ _ _ l.loop-size.invariant.1.1 long _ _ e.0 e.1 on.if-at_rest.false
 
 loop-size-preserved : tie.Need-loop-size-preserved invariant-loop-size decreases-loop-size
 loop-size-preserved c =
     let s : tie.Start invariant-loop-size decreases-loop-size = search in
     let l : tie.At-loop-size invariant-loop-size decreases-loop-size = search in
     let round : tie.After-push_each-moved invariant-loop-size decreases-loop-size = search in
-    let on : tie.Else-moved-eq0 invariant-loop-size decreases-loop-size = search in
+    let on : tie.Else-at_rest invariant-loop-size decreases-loop-size = search in
     let j = job_of (lent s) in
     let e = round.push_each-moved.ensures in
     let long = whole (lent s) _ _ _ _ _ l.loop-size.invariant.0 in (
       pushable_after (lent s) _ _ _ _ _ l.loop-size.invariant.0 _ (each s _ long) _ e.1,
       (
         round.push_each-moved.auto.layout ∙ l.loop-size.invariant.1.0,
-        pushing_more j _ (pass j) (each s) _ _ _ l.loop-size.invariant.1.1 long _ _ e.0 e.1 on.if-moved-eq0.false,
+        pushing_more j _ (pass j) (each s) _ _ _ l.loop-size.invariant.1.1 long _ _ e.0 e.1 on.if-at_rest.false,
       ),
     )
 
 pub push_all_spec : {M : Type 1} → statement M
 push_all_spec =
     tie.close (tie.spec
-    invariant-loop-size decreases-loop-size loop-size-init push_each-moved-requires shape_of-layout-then-moved-eq0 returns-then-moved-eq0
+    invariant-loop-size decreases-loop-size loop-size-init push_each-moved-requires shape_of-layout-then-at_rest returns-then-at_rest
     overflow_add-slid loop-size-smaller loop-size-preserved)

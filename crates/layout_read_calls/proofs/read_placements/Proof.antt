@@ -100,13 +100,13 @@ loop-i-preserved c =
           (sym c.in-Read.is ∙ at-placement-line.placement_line.ensures.0 pixels))),
     )
 
-shape_of-layout-then-at-text : tie.Need-shape_of-layout-then-at-text invariant-loop-i decreases-loop-i
-shape_of-layout-then-at-text c =
+shape_of-layout-then-more : tie.Need-shape_of-layout-then-more invariant-loop-i decreases-loop-i
+shape_of-layout-then-more c =
     let at-loop : tie.At-loop-i invariant-loop-i decreases-loop-i = search in
     at-loop.loop-i.invariant.3
 
-returns-then-at-text : tie.Need-returns-then-at-text invariant-loop-i decreases-loop-i
-returns-then-at-text c =
+returns-then-more : tie.Need-returns-then-more invariant-loop-i decreases-loop-i
+returns-then-more c =
     let at-loop : tie.At-loop-i invariant-loop-i decreases-loop-i = search in
     let at-start : tie.Start invariant-loop-i decreases-loop-i = search in
     let a = at-start.args in
@@ -116,7 +116,7 @@ returns-then-at-text c =
     λ pixels.
     rw c.refused_in.ensures
     (progress_extra (λ pixels. job_of (lent_by a.size a.table.now pixels)) a.size.count a.text.now a.p a.layout.now l.layout l.at
-    l.line l.i l.invariant.4 c.before.before.loop-i-test.false c.before.if-at-text.true pixels) in
+    l.line l.i l.invariant.4 c.before.before.loop-i-test.false c.before.if-more.true pixels) in
     (λ pixels. sym (ap done_answer (whole pixels)), λ pixels v e. absurd (refused_given (sym (whole pixels) ∙ e)))
 
 shape_of-layout : tie.Need-shape_of-layout invariant-loop-i decreases-loop-i
@@ -133,7 +133,7 @@ returns c =
     let whole : (pixels : List ℕ)
     → placements_at (job_of (lent_by a.size a.table.now pixels)) a.text.now a.size.count 0 a.p 2 ≡ given l.invariant.4.front =
     progress_end (λ pixels. job_of (lent_by a.size a.table.now pixels)) a.size.count a.text.now a.p a.layout.now l.layout l.at
-    l.line l.i l.invariant.4 c.before.loop-i-test.false c.if-at-text.false in (
+    l.line l.i l.invariant.4 c.before.loop-i-test.false c.if-more.false in (
       λ pixels. sym (ap done_answer (whole pixels)),
       λ pixels v e.
           let same : ◌≡◌ {A = Layout} l.invariant.4.front v = given_same (sym (whole pixels) ∙ e) in
@@ -144,5 +144,5 @@ pub read_placements_spec : {M : Type 1} → statement M
 read_placements_spec =
     tie.close (tie.spec
     invariant-loop-i decreases-loop-i loop-i-init placement_line-requires (search rules) shape_of-layout-in-Refused returns-in-Refused (search rules)
-    (search rules) overflow_add-line overflow_add-i loop-i-smaller loop-i-preserved (search rules) shape_of-layout-then-at-text returns-then-at-text
+    (search rules) overflow_add-line overflow_add-i loop-i-smaller loop-i-preserved (search rules) shape_of-layout-then-more returns-then-more
     shape_of-layout returns)

@@ -8,12 +8,12 @@ use Rattle.layout_read_calls.proofs.turn_on_line.Tie as tie
 returns-then-number-i : tie.Need-returns-then-number-i
 returns-then-number-i c = rw (ne_eqb _ _ c.if-number-i.true, turn_on_line)
 
-returns-then-degrees-gt270 : tie.Need-returns-then-degrees-gt270
-returns-then-degrees-gt270 c = rw (eq-eqb _ _ c.before.if-number-i.false, turn_on_line, no_turn_above _ c.if-degrees-gt270.true)
+returns-then-above : tie.Need-returns-then-above
+returns-then-above c = rw (eq-eqb _ _ c.before.if-number-i.false, turn_on_line, no_turn_above _ c.if-above.true)
 
 returns : tie.Need-returns
 returns c = rw (eq-eqb _ _ c.before.before.if-number-i.false, turn_on_line) c.turn_of.ensures
 
 pub turn_on_line_spec : {M : Type 1} → statement M
 turn_on_line_spec = tie.close (tie.spec
-    returns-then-number-i returns-then-degrees-gt270 (search rules) (search rules) returns)
+    returns-then-number-i returns-then-above (search rules) (search rules) returns)

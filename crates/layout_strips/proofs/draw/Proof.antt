@@ -23,10 +23,10 @@ offset_bounds-spans-i c = let s : tie.Start = search in let b = (span_there s).1
 bounds-spans-i : tie.Need-bounds-spans-i
 bounds-spans-i c = let s : tie.Start = search in (span_there s).0
 
-returns-then-spans-i-ne0 : tie.Need-returns-then-spans-i-ne0
-returns-then-spans-i-ne0 c =
+returns-then-made : tie.Need-returns-then-made
+returns-then-made c =
     let s : tie.Start = search in
-    (s.requires.1.1, (c.if-spans-i-ne0.true, λ m q. q))
+    (s.requires.1.1, (c.if-made.true, λ m q. q))
 
 pixel_start-start-requires : tie.Need-pixel_start-start-requires
 pixel_start-start-requires c κs =
@@ -82,5 +82,5 @@ returns c =
 pub draw_spec : {M : Type 1} → statement M
 draw_spec =
     tie.close (tie.spec
-    offset_bounds-spans-i bounds-spans-i (search rules) returns-then-spans-i-ne0 (search rules) pixel_start-start-requires put_piece-end-requires
+    offset_bounds-spans-i bounds-spans-i (search rules) returns-then-made (search rules) pixel_start-start-requires put_piece-end-requires
     offset_bounds-spans-i-2 bounds-spans-i-2 (search rules) (search rules) returns)

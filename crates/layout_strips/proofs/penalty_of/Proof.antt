@@ -70,11 +70,11 @@ least-cost c n size e same =
     let a = s.args in
     least c n size e ∙ gap_penalty size a.table.now a.pixels.now a.layout.now a.gap a.i a.k same
 
-returns-then-along_rows-eq0 : tie.Need-returns-then-along_rows-eq0
-returns-then-along_rows-eq0 c =
+returns-then-apart : tie.Need-returns-then-apart
+returns-then-apart c =
     let s : tie.Start = search in
     let along : tie.After-depth_of-along_rows = search in
-    let none = c.if-along_rows-eq0.true in
+    let none = c.if-apart.true in
     (λ size. least-cost along 0 size (omega arith), (λ e. omega arith, (along.depth_of-along_rows.ensures.1, s.requires.1.1.1.0)))
 
 depth_of-requires : tie.Need-depth_of-requires
@@ -102,5 +102,5 @@ returns c =
 pub penalty_of_spec : {M : Type 1} → statement M
 penalty_of_spec =
     tie.close (tie.spec
-    boxes_meet-requires returns-then-not-boxes_meet depth_of-along_rows-requires (search rules) (search rules) returns-then-along_rows-eq0
+    boxes_meet-requires returns-then-not-boxes_meet depth_of-along_rows-requires (search rules) (search rules) returns-then-apart
     depth_of-requires (search rules) (search rules) (search rules) (search rules) returns)

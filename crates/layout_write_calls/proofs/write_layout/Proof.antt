@@ -37,8 +37,8 @@ put_layout-needed-requires c κs =
     let f = fitting a.size a.table.now a.pixels.now s.well in
     (f.few_rows, f.few_columns, f.few_pieces, s.whole)
 
-returns-then-text-needed : tie.Need-returns-then-text-needed
-returns-then-text-needed c =
+returns-then-short : tie.Need-returns-then-short
+returns-then-short c =
     let at-put-layout : tie.After-put_layout-needed = search in
     let at-layout-causes : tie.After-layout_causes = search in
     let at-start : tie.Start = search in
@@ -49,7 +49,7 @@ returns-then-text-needed c =
     let part = at-put-layout.put_layout-needed in
     let none : part.new.text ≡ [] = nothing_left _ part.auto.text in
     let long : length a.text.now < length (layout_text (job_of l) (layout_of a.layout.now)) =
-    rw (none, (part.ensures a.table.now a.pixels.now).0) at c.before.if-text-needed.true in
+    rw (none, (part.ensures a.table.now a.pixels.now).0) at c.before.if-short.true in
     let o : write_layout_call l a.layout.now (length a.text.now) ≡ refused c.plain_refusal.result =
     write_short l a.layout.now _ e long ∙ sym (ap refused c.plain_refusal.ensures) in
     (sym (ap count_answer o), rw none (sym (ap (text_after a.text.now) o)))
@@ -68,7 +68,7 @@ put_layout-requires c κs =
 
 returns : tie.Need-returns
 returns c =
-    let at-else1 : tie.Else-text-needed = search in
+    let at-else1 : tie.Else-short = search in
     let at-put-layout : tie.After-put_layout-needed = search in
     let at-layout-causes : tie.After-layout_causes = search in
     let at-start : tie.Start = search in
@@ -79,7 +79,7 @@ returns c =
     let part = at-put-layout.put_layout-needed in
     let none : part.new.text ≡ [] = nothing_left _ part.auto.text in
     let long : length (layout_text (job_of l) (layout_of a.layout.now)) ≤ length a.text.now =
-    rw (none, (part.ensures a.table.now a.pixels.now).0) at at-else1.if-text-needed.false in
+    rw (none, (part.ensures a.table.now a.pixels.now).0) at at-else1.if-short.false in
     let o : write_layout_call l a.layout.now (length a.text.now) ≡ given (layout_text (job_of l) (layout_of a.layout.now)) =
     write_given l a.layout.now _ e long in (
       rw (part.ensures a.table.now a.pixels.now).0 (sym (ap count_answer o)),
@@ -91,4 +91,4 @@ pub write_layout_spec : {M : Type 1} → statement M
 write_layout_spec =
     tie.close (tie.spec
     (search rules) (search rules) returns-in-Refused (search rules) (search rules) (search rules) put_layout-needed-requires (search rules)
-    (search rules) returns-then-text-needed put_layout-requires (search rules) returns)
+    (search rules) returns-then-short put_layout-requires (search rules) returns)

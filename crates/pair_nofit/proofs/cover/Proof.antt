@@ -4,12 +4,12 @@ use Rattle.pair_nofit.proofs.Covering.{covered_marked, joined_covers}
 use Rattle.pair_nofit.proofs.cover.Statement.{statement}
 use Rattle.pair_nofit.proofs.cover.Tie as tie
 
-returns-then-high-covered : tie.Need-returns-then-high-covered
-returns-then-high-covered c =
+returns-then-within : tie.Need-returns-then-within
+returns-then-within c =
     let at-start : tie.Start = search in
     let begins : tie.Then-covered-low = search in
     let a = at-start.args in
-    (covered_marked a.covered a.low a.high a.marks.now at-start.requires begins.if-covered-low.true c.if-high-covered.true, at-start.requires)
+    (covered_marked a.covered a.low a.high a.marks.now at-start.requires begins.if-covered-low.true c.if-within.true, at-start.requires)
 
 returns : tie.Need-returns
 returns c =
@@ -22,4 +22,4 @@ returns c =
 
 pub cover_spec : {M : Type 1} → statement M
 cover_spec = tie.close (tie.spec
-    returns-then-high-covered (search rules) (search rules) (search rules) returns)
+    returns-then-within (search rules) (search rules) (search rules) returns)

@@ -26,8 +26,8 @@ put_runs-requires c κs =
     let at-mark-shifts : tie.After-mark_shifts = search in
     omega (arith, at-mark-shifts.mark_shifts.ensures.same)
 
-returns-then-out-needed : tie.Need-returns-then-out-needed
-returns-then-out-needed c =
+returns-then-short : tie.Need-returns-then-short
+returns-then-short c =
     let at-put-runs : tie.After-put_runs-needed = search in
     let at-mark-shifts : tie.After-mark_shifts = search in
     let at_up : tie.After-up = search in
@@ -39,11 +39,11 @@ returns-then-out-needed c =
     (marks_line s.gap s.a.now s.b.now s.offset _ _ _ _ (at-down.down.ensures ∙ ap (λ (z : ℤ). min (down z) farthest) e)
     (at_up.up.ensures ∙ ap (λ (z : ℤ). min (up z) farthest) e) at-mark-shifts.mark_shifts.ensures (omega arith)) s.out.now
     at-put-runs.put_runs-needed.new.out at-put-runs.put_runs-needed.result at-put-runs.put_runs-needed.ensures
-    c.before.if-out-needed.true c.plain_refusal.result c.plain_refusal.ensures
+    c.before.if-short.true c.plain_refusal.result c.plain_refusal.ensures
 
 returns : tie.Need-returns
 returns c =
-    let at-else1 : tie.Else-out-needed = search in
+    let at-else1 : tie.Else-short = search in
     let at-put-runs : tie.After-put_runs-needed = search in
     let at-mark-shifts : tie.After-mark_shifts = search in
     let at_up : tie.After-up = search in
@@ -55,10 +55,10 @@ returns c =
     (marks_line s.gap s.a.now s.b.now s.offset _ _ _ _ (at-down.down.ensures ∙ ap (λ (z : ℤ). min (down z) farthest) e)
     (at_up.up.ensures ∙ ap (λ (z : ℤ). min (up z) farthest) e) at-mark-shifts.mark_shifts.ensures (omega arith)) s.out.now
     at-put-runs.put_runs-needed.new.out at-put-runs.put_runs-needed.result at-put-runs.put_runs-needed.ensures
-    at-else1.if-out-needed.false c.before.put_runs.new.out c.before.put_runs.result c.before.put_runs.ensures
+    at-else1.if-short.false c.before.put_runs.new.out c.before.put_runs.result c.before.put_runs.ensures
 
 pub put_line_spec : {M : Type 1} → statement M
 put_line_spec =
     tie.close (tie.spec
     (search rules) (search rules) (search rules) mark_shifts-requires (search rules) (search rules) (search rules) put_runs-needed-requires
-    (search rules) (search rules) returns-then-out-needed (search rules) put_runs-requires (search rules) returns)
+    (search rules) (search rules) returns-then-short (search rules) put_runs-requires (search rules) returns)

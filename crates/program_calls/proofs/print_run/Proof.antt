@@ -19,15 +19,15 @@ slice_bounds-print_text-end-3 c =
     let used : tie.After-words_used-used = search in
     sym (length-take-le _ _ used.words_used-used.ensures.within)
 
-returns-then-output-count : tie.Need-returns-then-output-count
-returns-then-output-count c =
+returns-then-short : tie.Need-returns-then-short
+returns-then-short c =
     let used : tie.After-words_used-used = search in
     let at-print-text : tie.After-print_text-count = search in
     let at-start : tie.Start = search in
     let a = at-start.args in
     let w = at-print-text.print_text-count.ensures in
     let end = w.end in
-    let long = c.if-output-count.true in
+    let long = c.if-short.true in
     let t : TextLeaves a.input.now a.output.now (NumberAnswer.Refused c.plain_refusal.result) a.output.now =
     rw c.plain_refusal.ensures (leaves_short a.input.now a.output.now (omega arith) w.short) in
     let left = workspace_left a.input.now (length a.output.now) a.workspace.now at-print-text.print_text-count.new.workspace
@@ -41,14 +41,14 @@ slice_bounds-put_word-end c = sym (length-take-le _ _ (search rules))
 returns : tie.Need-returns
 returns c =
     let used : tie.After-words_used-used = search in
-    let at-else1 : tie.Else-output-count = search in
+    let at-else1 : tie.Else-short = search in
     let at-print-text : tie.After-print_text-count = search in
     let at-start : tie.Start = search in
     let a = at-start.args in
     let w = at-print-text.print_text-count.ensures in
     let end = w.end in
     let short = w.short in
-    let room = at-else1.if-output-count.false in
+    let room = at-else1.if-short.false in
     let fits : length (program_text a.input.now) ≤ length a.output.now = omega arith in
     let front = front_written _ (program_text a.input.now) output_bound _ _ (le_of_eq (sym (length-replicate {A = ℕ} 4096 0))) w in
     let put : tie.After-put_word = search in
@@ -64,4 +64,4 @@ pub print_run_spec : {M : Type 1} → statement M
 print_run_spec =
     tie.close (tie.spec
     (search rules) (search rules) slice_bounds-print_text-end-2 slice_bounds-print_text-end-3 (search rules) (search rules) (search rules)
-    returns-then-output-count (search rules) slice_bounds-put_word-end (search rules) (search rules) (search rules) returns)
+    returns-then-short (search rules) slice_bounds-put_word-end (search rules) (search rules) (search rules) returns)

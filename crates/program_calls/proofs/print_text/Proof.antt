@@ -6,23 +6,23 @@ use Rattle.program_calls.proofs.Printing.{text_printed}
 use Rattle.program_calls.proofs.print_text.Statement.{statement}
 use Rattle.program_calls.proofs.print_text.Tie as tie
 
-returns-then-input-gt-INPUT_BOUND : tie.Need-returns-then-input-gt-INPUT_BOUND
-returns-then-input-gt-INPUT_BOUND c =
+returns-then-long : tie.Need-returns-then-long
+returns-then-long c =
     let at-plain-refusal : tie.After-plain_refusal = search in
-    let at-then1 : tie.Then-input-gt-INPUT_BOUND = search in
+    let at-then1 : tie.Then-long = search in
     let at-start : tie.Start = search in
     let a = at-start.args in
-    text_printed a.input.now _ (program_too_long a.input.now at-then1.if-input-gt-INPUT_BOUND.true ∙ ap refusal_text (sym at-plain-refusal.plain_refusal.ensures))
+    text_printed a.input.now _ (program_too_long a.input.now at-then1.if-long.true ∙ ap refusal_text (sym at-plain-refusal.plain_refusal.ensures))
     c.put_refusal_line.ensures (omega arith)
 
 returns : tie.Need-returns
 returns c =
-    let at-else1 : tie.Else-input-gt-INPUT_BOUND = search in
+    let at-else1 : tie.Else-long = search in
     let printed : tie.After-read_and_print = search in
     let at-start : tie.Start = search in
     let a = at-start.args in
-    text_printed a.input.now _ (program_reads a.input.now at-else1.if-input-gt-INPUT_BOUND.false) printed.read_and_print.ensures (omega arith)
+    text_printed a.input.now _ (program_reads a.input.now at-else1.if-long.false) printed.read_and_print.ensures (omega arith)
 
 pub print_text_spec : {M : Type 1} → statement M
 print_text_spec = tie.close (tie.spec
-    (search rules) (search rules) (search rules) returns-then-input-gt-INPUT_BOUND (search rules) (search rules) (search rules) returns)
+    (search rules) (search rules) (search rules) returns-then-long (search rules) (search rules) (search rules) returns)

@@ -115,21 +115,21 @@ returns-then-at-eq0 c =
       (at-loop.loop-at.invariant.0.laid, at-loop.loop-at.invariant.0.ready),
     )
 
-shape_of-layout-then-at-count : tie.Need-shape_of-layout-then-at-count invariant-loop-at decreases-loop-at
-shape_of-layout-then-at-count c = let at-loop : tie.At-loop-at invariant-loop-at decreases-loop-at = search in at-loop.loop-at.invariant.1
+shape_of-layout-then-settled : tie.Need-shape_of-layout-then-settled invariant-loop-at decreases-loop-at
+shape_of-layout-then-settled c = let at-loop : tie.At-loop-at invariant-loop-at decreases-loop-at = search in at-loop.loop-at.invariant.1
 
-shape_of-penalties-then-at-count : tie.Need-shape_of-penalties-then-at-count invariant-loop-at decreases-loop-at
-shape_of-penalties-then-at-count c = let at-loop : tie.At-loop-at invariant-loop-at decreases-loop-at = search in at-loop.loop-at.invariant.2
+shape_of-penalties-then-settled : tie.Need-shape_of-penalties-then-settled invariant-loop-at decreases-loop-at
+shape_of-penalties-then-settled c = let at-loop : tie.At-loop-at invariant-loop-at decreases-loop-at = search in at-loop.loop-at.invariant.2
 
-shape_of-lines-then-at-count : tie.Need-shape_of-lines-then-at-count invariant-loop-at decreases-loop-at
-shape_of-lines-then-at-count c = let at-loop : tie.At-loop-at invariant-loop-at decreases-loop-at = search in at-loop.loop-at.invariant.3
+shape_of-lines-then-settled : tie.Need-shape_of-lines-then-settled invariant-loop-at decreases-loop-at
+shape_of-lines-then-settled c = let at-loop : tie.At-loop-at invariant-loop-at decreases-loop-at = search in at-loop.loop-at.invariant.3
 
-shape_of-maps-then-at-count : tie.Need-shape_of-maps-then-at-count invariant-loop-at decreases-loop-at
-shape_of-maps-then-at-count c = let at-loop : tie.At-loop-at invariant-loop-at decreases-loop-at = search in at-loop.loop-at.invariant.4
+shape_of-maps-then-settled : tie.Need-shape_of-maps-then-settled invariant-loop-at decreases-loop-at
+shape_of-maps-then-settled c = let at-loop : tie.At-loop-at invariant-loop-at decreases-loop-at = search in at-loop.loop-at.invariant.4
 
-returns-then-at-count : tie.Need-returns-then-at-count invariant-loop-at decreases-loop-at
+returns-then-settled : tie.Need-returns-then-settled invariant-loop-at decreases-loop-at
 unfolding job_of
-returns-then-at-count c =
+returns-then-settled c =
     let at-else1 : tie.Else-at-eq0 invariant-loop-at decreases-loop-at = search in
     let at-loop : tie.At-loop-at invariant-loop-at decreases-loop-at = search in
     let e = entry at-loop in
@@ -138,27 +138,27 @@ returns-then-at-count c =
     descend_over j e.args.weights.now e.args.budget (given e)
     ∙ underway_settled j e.args.weights.now (jobTrials e) e.args.budget (given e)
     (e.args.budget - at-loop.loop-at.at.made) _ at-loop.loop-at.at.sum at-loop.loop-at.invariant.0.underway
-    at-else1.if-at-eq0.false (c.if-at-count.true ∙ count_is e) in (
-      is ∙ ap (λ (x : Ended). descent_of x (layout_of at-loop.loop-at.layout)) (sym c.end_at-then-at-count.ensures),
+    at-else1.if-at-eq0.false (c.if-settled.true ∙ count_is e) in (
+      is ∙ ap (λ (x : Ended). descent_of x (layout_of at-loop.loop-at.layout)) (sym c.end_at-then-settled.ensures),
       (at-loop.loop-at.invariant.0.laid, at-loop.loop-at.invariant.0.ready),
     )
 
-shape_of-layout-then-at-budget : tie.Need-shape_of-layout-then-at-budget invariant-loop-at decreases-loop-at
-shape_of-layout-then-at-budget c = let at-loop : tie.At-loop-at invariant-loop-at decreases-loop-at = search in at-loop.loop-at.invariant.1
+shape_of-layout-then-spent : tie.Need-shape_of-layout-then-spent invariant-loop-at decreases-loop-at
+shape_of-layout-then-spent c = let at-loop : tie.At-loop-at invariant-loop-at decreases-loop-at = search in at-loop.loop-at.invariant.1
 
-shape_of-penalties-then-at-budget : tie.Need-shape_of-penalties-then-at-budget invariant-loop-at decreases-loop-at
-shape_of-penalties-then-at-budget c = let at-loop : tie.At-loop-at invariant-loop-at decreases-loop-at = search in at-loop.loop-at.invariant.2
+shape_of-penalties-then-spent : tie.Need-shape_of-penalties-then-spent invariant-loop-at decreases-loop-at
+shape_of-penalties-then-spent c = let at-loop : tie.At-loop-at invariant-loop-at decreases-loop-at = search in at-loop.loop-at.invariant.2
 
-shape_of-lines-then-at-budget : tie.Need-shape_of-lines-then-at-budget invariant-loop-at decreases-loop-at
-shape_of-lines-then-at-budget c = let at-loop : tie.At-loop-at invariant-loop-at decreases-loop-at = search in at-loop.loop-at.invariant.3
+shape_of-lines-then-spent : tie.Need-shape_of-lines-then-spent invariant-loop-at decreases-loop-at
+shape_of-lines-then-spent c = let at-loop : tie.At-loop-at invariant-loop-at decreases-loop-at = search in at-loop.loop-at.invariant.3
 
-shape_of-maps-then-at-budget : tie.Need-shape_of-maps-then-at-budget invariant-loop-at decreases-loop-at
-shape_of-maps-then-at-budget c = let at-loop : tie.At-loop-at invariant-loop-at decreases-loop-at = search in at-loop.loop-at.invariant.4
+shape_of-maps-then-spent : tie.Need-shape_of-maps-then-spent invariant-loop-at decreases-loop-at
+shape_of-maps-then-spent c = let at-loop : tie.At-loop-at invariant-loop-at decreases-loop-at = search in at-loop.loop-at.invariant.4
 
-returns-then-at-budget : tie.Need-returns-then-at-budget invariant-loop-at decreases-loop-at
+returns-then-spent : tie.Need-returns-then-spent invariant-loop-at decreases-loop-at
 unfolding job_of
-returns-then-at-budget c =
-    let at-else2 : tie.Else-at-count invariant-loop-at decreases-loop-at = search in
+returns-then-spent c =
+    let at-else2 : tie.Else-settled invariant-loop-at decreases-loop-at = search in
     let at-else1 : tie.Else-at-eq0 invariant-loop-at decreases-loop-at = search in
     let at-loop : tie.At-loop-at invariant-loop-at decreases-loop-at = search in
     let e = entry at-loop in
@@ -167,13 +167,13 @@ returns-then-at-budget c =
     descend_over j e.args.weights.now e.args.budget (given e)
     ∙ underway_spent j e.args.weights.now (jobTrials e) e.args.budget (given e)
     (e.args.budget - at-loop.loop-at.at.made) _ at-loop.loop-at.at.sum at-loop.loop-at.invariant.0.underway
-    at-else1.if-at-eq0.false (λ z. at-else2.if-at-count.false (z ∙ sym (count_is e))) (let made = c.if-at-budget.true in omega arith) in (
-      is ∙ ap (λ (x : Ended). descent_of x (layout_of at-loop.loop-at.layout)) (sym c.end_at-then-at-budget.ensures),
+    at-else1.if-at-eq0.false (λ z. at-else2.if-settled.false (z ∙ sym (count_is e))) (let made = c.if-spent.true in omega arith) in (
+      is ∙ ap (λ (x : Ended). descent_of x (layout_of at-loop.loop-at.layout)) (sym c.end_at-then-spent.ensures),
       (at-loop.loop-at.invariant.0.laid, at-loop.loop-at.invariant.0.ready),
     )
 
 -- where none of the three ends is reached there is a trial that comes next
-there : (c : tie.Else-at-count invariant-loop-at decreases-loop-at) →
+there : (c : tie.Else-settled invariant-loop-at decreases-loop-at) →
     let at-loop : tie.At-loop-at invariant-loop-at decreases-loop-at = search in
     at-loop.loop-at.at.next < length (jobTrials (entry at-loop))
 there c =
@@ -181,20 +181,20 @@ there c =
     let at-loop : tie.At-loop-at invariant-loop-at decreases-loop-at = search in
     let e = entry at-loop in
     underway_there (job_of (lent e)) e.args.weights.now (jobTrials e) e.args.budget (given e) (e.args.budget - at-loop.loop-at.at.made) _
-    at-loop.loop-at.at.sum at-loop.loop-at.invariant.0.underway at-else1.if-at-eq0.false (λ z. c.if-at-count.false (z ∙ sym (count_is e)))
+    at-loop.loop-at.at.sum at-loop.loop-at.invariant.0.underway at-else1.if-at-eq0.false (λ z. c.if-settled.false (z ∙ sym (count_is e)))
 
 step-at-requires : tie.Need-step-at-requires invariant-loop-at decreases-loop-at
 unfolding job_of
 step-at-requires c κs =
-    let at-else3 : tie.Else-at-budget invariant-loop-at decreases-loop-at = search in
-    let at-else2 : tie.Else-at-count invariant-loop-at decreases-loop-at = search in
+    let at-else3 : tie.Else-spent invariant-loop-at decreases-loop-at = search in
+    let at-else2 : tie.Else-settled invariant-loop-at decreases-loop-at = search in
     let at-loop : tie.At-loop-at invariant-loop-at decreases-loop-at = search in
     let e = entry at-loop in
     let u = at-loop.loop-at.invariant.0.underway in
     let within = u.counted in
-    let differs = at-else3.if-at-budget.false in
+    let differs = at-else3.if-spent.false in
     let most = e.requires.1.1.1.0 in
-    let unsettled = at-else2.if-at-count.false in
+    let unsettled = at-else2.if-settled.false in
     let count = count_is e in
     let quiet = u.quiet_few in
     let next = there at-else2 in
@@ -234,10 +234,10 @@ loop-at-smaller : tie.Need-loop-at-smaller invariant-loop-at decreases-loop-at
 unfolding job_of
 loop-at-smaller c =
     let at-step : tie.After-step-at invariant-loop-at decreases-loop-at = search in
-    let at-else3 : tie.Else-at-budget invariant-loop-at decreases-loop-at = search in
+    let at-else3 : tie.Else-spent invariant-loop-at decreases-loop-at = search in
     let at-loop : tie.At-loop-at invariant-loop-at decreases-loop-at = search in
     let within = at-loop.loop-at.invariant.0.underway.counted in
-    let differs = at-else3.if-at-budget.false in
+    let differs = at-else3.if-spent.false in
     let one = made_one (at-step) in
     omega arith
 
@@ -245,8 +245,8 @@ loop-at-preserved : tie.Need-loop-at-preserved invariant-loop-at decreases-loop-
 unfolding job_of
 loop-at-preserved c =
     let at-step : tie.After-step-at invariant-loop-at decreases-loop-at = search in
-    let at-else3 : tie.Else-at-budget invariant-loop-at decreases-loop-at = search in
-    let at-else2 : tie.Else-at-count invariant-loop-at decreases-loop-at = search in
+    let at-else3 : tie.Else-spent invariant-loop-at decreases-loop-at = search in
+    let at-else2 : tie.Else-settled invariant-loop-at decreases-loop-at = search in
     let at-else1 : tie.Else-at-eq0 invariant-loop-at decreases-loop-at = search in
     let at-loop : tie.At-loop-at invariant-loop-at decreases-loop-at = search in
     let e = entry at-loop in
@@ -255,14 +255,14 @@ loop-at-preserved c =
     let new = s.new.layout in
     let left = e.args.budget - at-loop.loop-at.at.made in
     let within = at-loop.loop-at.invariant.0.underway.counted in
-    let differs = at-else3.if-at-budget.false in
+    let differs = at-else3.if-spent.false in
     let one = made_one (at-step) in
     let rest : left - 1 ≡ e.args.budget - s.result.made = omega arith in
     let pass : Underway j e.args.weights.now (jobTrials e) e.args.budget (given e) (left - 1)
     (standing_as (layout_of new) s.result) s.result.sum =
     underway_pass j e.args.weights.now (jobTrials e) e.args.budget (given e) left _ at-loop.loop-at.at.sum
     at-loop.loop-at.invariant.0.underway
-    at-else1.if-at-eq0.false (λ z. at-else2.if-at-count.false (z ∙ sym (count_is e))) (omega arith) _ s.result.sum (stepped at-step) s.ensures.1.0
+    at-else1.if-at-eq0.false (λ z. at-else2.if-settled.false (z ∙ sym (count_is e))) (omega arith) _ s.result.sum (stepped at-step) s.ensures.1.0
     s.ensures.1.1.0.valid in
     let under : Underway j e.args.weights.now (jobTrials e) e.args.budget (given e) (e.args.budget - s.result.made)
     (standing_as (layout_of new) s.result)
@@ -281,6 +281,6 @@ descend_spec =
     tie.close (tie.spec
     invariant-loop-at decreases-loop-at total-requires (search rules) loop-at-init (search rules) shape_of-layout-then-at-eq0
     shape_of-penalties-then-at-eq0 shape_of-lines-then-at-eq0 shape_of-maps-then-at-eq0 returns-then-at-eq0 (search rules)
-    shape_of-layout-then-at-count shape_of-penalties-then-at-count shape_of-lines-then-at-count shape_of-maps-then-at-count returns-then-at-count
-    (search rules) shape_of-layout-then-at-budget shape_of-penalties-then-at-budget shape_of-lines-then-at-budget shape_of-maps-then-at-budget
-    returns-then-at-budget step-at-requires loop-at-smaller loop-at-preserved)
+    shape_of-layout-then-settled shape_of-penalties-then-settled shape_of-lines-then-settled shape_of-maps-then-settled returns-then-settled
+    (search rules) shape_of-layout-then-spent shape_of-penalties-then-spent shape_of-lines-then-spent shape_of-maps-then-spent
+    returns-then-spent step-at-requires loop-at-smaller loop-at-preserved)

@@ -92,13 +92,13 @@ after_quiet-requires c κs =
     let at-start : tie.Start = search in
     (counted at-start, at-start.requires.1.1.1.1.1.1.0)
 
-returns-then-present-eq0 : tie.Need-returns-then-present-eq0
-returns-then-present-eq0 c =
+returns-then-still : tie.Need-returns-then-still
+returns-then-still c =
     let b : tie.After-row_sum-present = search in
     let e = entry b in
     let j = job_of (lent e) in
     let r = c.after_quiet in
-    let still = zero_quiet j e.args.weights.now (layoutAt e) (trial_at b) (sym (present b) ∙ c.if-present-eq0.true) in (
+    let still = zero_quiet j e.args.weights.now (layoutAt e) (trial_at b) (sym (present b) ∙ c.if-still.true) in (
       quiet_passed e.args.trials.now (layoutAt e) e.args.at _ (placed b).next_place-next.ensures j e.args.weights.now (trial_at b)
           (reading b).trial_at-trial.ensures r.result r.ensures still,
       (ap (λ (s : DescentState). s.sum) r.ensures ∙ e.requires.1.1.1.1.0, (e.requires.1.1.0, e.requires.0)),
@@ -256,7 +256,7 @@ returns c =
 pub step_spec : {M : Type 1} → statement M
 step_spec =
     tie.close (tie.spec
-    trial_at-trial-requires next_place-next-requires row_sum-present-requires after_quiet-requires (search rules) returns-then-present-eq0
+    trial_at-trial-requires next_place-next-requires row_sum-present-requires after_quiet-requires (search rules) returns-then-still
     overflow_cast-present try_trial-requires (search rules) (search rules) after_quiet-requires-in_default shape_of-layout-in_default
     shape_of-penalties-in_default shape_of-lines-in_default shape_of-maps-in_default returns-in_default overflow_sub-sum (search rules)
     overflow_add-sum after_move-requires shape_of-layout shape_of-penalties shape_of-lines shape_of-maps returns)

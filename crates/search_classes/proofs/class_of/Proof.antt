@@ -11,16 +11,16 @@ invariant-loop-k size table pixels i k₀ k = k ≤ i
 abbrev decreases-loop-k : tie.decreases-loop-k
 decreases-loop-k size table pixels i k₀ k = i - k
 
-equal_pieces-requires : tie.Need-equal_pieces-requires invariant-loop-k decreases-loop-k
-equal_pieces-requires c κs =
+equal_pieces-same-requires : tie.Need-equal_pieces-same-requires invariant-loop-k decreases-loop-k
+equal_pieces-same-requires c κs =
     let e : tie.Start invariant-loop-k decreases-loop-k = search in
     let n = e.requires.1 in
     (e.requires.0, (n, omega arith))
 
-returns-then-equal_pieces : tie.Need-returns-then-equal_pieces invariant-loop-k decreases-loop-k
-returns-then-equal_pieces c =
-    let b : tie.After-equal_pieces invariant-loop-k decreases-loop-k = search in
-    (omega arith, b.equal_pieces.ensures c.if-equal_pieces.true)
+returns-then-same : tie.Need-returns-then-same invariant-loop-k decreases-loop-k
+returns-then-same c =
+    let b : tie.After-equal_pieces-same invariant-loop-k decreases-loop-k = search in
+    (omega arith, b.equal_pieces-same.ensures c.if-same.true)
 
 returns : tie.Need-returns invariant-loop-k decreases-loop-k
 returns c =
@@ -29,5 +29,5 @@ returns c =
 
 pub class_of_spec : {M : Type 1} → statement M
 class_of_spec = tie.close (tie.spec
-    invariant-loop-k decreases-loop-k (search rules) equal_pieces-requires returns-then-equal_pieces (search rules) (search rules) (search rules)
+    invariant-loop-k decreases-loop-k (search rules) equal_pieces-same-requires returns-then-same (search rules) (search rules) (search rules)
     returns)

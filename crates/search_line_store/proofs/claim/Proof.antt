@@ -7,15 +7,15 @@ use Rattle.search_line_store.proofs.claim.Tie as tie
 free_units-place-requires : tie.Need-free_units-place-requires
 free_units-place-requires c κs = let at-start : tie.Start = search in (at-start.requires.0, at-start.requires.1.1)
 
-returns-then-units-units_of : tie.Need-returns-then-units-units_of
-returns-then-units-units_of c =
+returns-then-fits : tie.Need-returns-then-fits
+returns-then-fits c =
     let at-start : tie.Start = search in
     let at-units : tie.After-units_of = search in
     let at-begin : tie.After-begin_of = search in
     let a = at-start.args in
-    let own : tie.Then-units-units_of = search in
+    let own : tie.Then-fits = search in
     let units = at-units.units_of.ensures.0 in
-    rw at-begin.begin_of.ensures (claim_own a.slots a.slot a.units a.bytes.now at-start.requires.0 (omega (arith, own.if-units-units_of.true)))
+    rw at-begin.begin_of.ensures (claim_own a.slots a.slot a.units a.bytes.now at-start.requires.0 (omega (arith, own.if-fits.true)))
 
 returns : tie.Need-returns
 returns c =
@@ -33,5 +33,5 @@ returns c =
 pub claim_spec : {M : Type 1} → statement M
 claim_spec =
     tie.close (tie.spec
-    (search rules) (search rules) (search rules) returns-then-units-units_of free_units-place-requires (search rules) (search rules) (search rules)
+    (search rules) (search rules) (search rules) returns-then-fits free_units-place-requires (search rules) (search rules) (search rules)
     (search rules) (search rules) (search rules) (search rules) (search rules) (search rules) (search rules) (search rules) (search rules) returns)

@@ -33,47 +33,47 @@ key_of-key-requires c κs = let e : tie.Start = search in small e
 begin_of-held-requires : tie.Need-begin_of-held-requires
 begin_of-held-requires c κs = let e : tie.Start = search in let s : tie.After-slot_of-slot = search in (s.slot_of-slot.ensures, (table-in e).0, (table-in e).1)
 
-units_of-requires : tie.Need-units_of-requires
-units_of-requires c κs = let e : tie.Start = search in let s : tie.After-slot_of-slot = search in (s.slot_of-slot.ensures, (table-in e).0, (table-in e).1)
+units_of-made-requires : tie.Need-units_of-made-requires
+units_of-made-requires c κs = let e : tie.Start = search in let s : tie.After-slot_of-slot = search in (s.slot_of-slot.ensures, (table-in e).0, (table-in e).1)
 
 -- the entry, from where the slot's units are known
-abbrev entry : tie.After-units_of → tie.Start
+abbrev entry : tie.After-units_of-made → tie.Start
 entry c = search
 
-abbrev slotted : tie.After-units_of → tie.After-slot_of-slot
+abbrev slotted : tie.After-units_of-made → tie.After-slot_of-slot
 slotted c = search
 
-abbrev begun : tie.After-units_of → tie.After-begin_of-held
+abbrev begun : tie.After-units_of-made → tie.After-begin_of-held
 begun c = search
 
 -- a stretch that the slot has lies in the store
-held-within : (c : tie.After-units_of) → 0 < c.units_of.result
+held-within : (c : tie.After-units_of-made) → 0 < c.units_of-made.result
     → (begun c).begin_of-held.result + 8 ≤ length (entry c).args.lines.now
 held-within c some =
     let e = entry c in
     let w = e.requires.1.1.stretches in
     let b = (begun c).begin_of-held.ensures in
-    let u = c.units_of.ensures.0 in
+    let u = c.units_of-made.ensures.0 in
     omega (arith, w.fits, w.within (slotted c).slot_of-slot.result (slotted c).slot_of-slot.ensures)
 
 key_at-requires : tie.Need-key_at-requires
 key_at-requires c κs =
-    let u : tie.After-units_of = search in
-    let t : tie.Then-units_of-ne0 = search in
-    let w = held-within u (pos_of_ne-zero t.if-units_of-ne0.true) in
+    let u : tie.After-units_of-made = search in
+    let t : tie.Then-made = search in
+    let w = held-within u (pos_of_ne-zero t.if-made.true) in
     (omega arith, (table-in (entry u)).1)
 
 overflow_add-result : tie.Need-overflow_add-result
 overflow_add-result c =
-    let u : tie.After-units_of = search in
-    let t : tie.Then-units_of-ne0 = search in
-    let w = held-within u (pos_of_ne-zero t.if-units_of-ne0.true) in
+    let u : tie.After-units_of-made = search in
+    let t : tie.Then-made = search in
+    let w = held-within u (pos_of_ne-zero t.if-made.true) in
     omega (arith, (table-in (entry u)).1)
 
 returns-then-key_at-key : tie.Need-returns-then-key_at-key
 returns-then-key_at-key c =
-    let u : tie.After-units_of = search in
-    let t : tie.Then-units_of-ne0 = search in
+    let u : tie.After-units_of-made = search in
+    let t : tie.Then-made = search in
     let k : tie.After-key_of-key = search in
     let a : tie.After-key_at = search in
     let e = entry u in
@@ -82,10 +82,10 @@ returns-then-key_at-key c =
     let asked = e.requires.0 in
     let kept = e.requires.1.1 in
     let b = (begun u).begin_of-held.ensures in
-    let some = pos_of_ne-zero t.if-units_of-ne0.true in
+    let some = pos_of_ne-zero t.if-made.true in
     let line = kept.holds s.slot_of-slot.result two.moved two.standing two.moved_turn two.standing_turn e.args.direction two.offset
     s.slot_of-slot.ensures (moved_there (lent e) _ _ two asked) (standing_there (lent e) _ _ two asked) asked.offset
-    (omega (arith, u.units_of.ensures.0))
+    (omega (arith, u.units_of-made.ensures.0))
     (rw (sym b) (sym a.key_at.ensures ∙ c.if-key_at-key.true ∙ k.key_of-key.ensures)) in
     let w = kept.stretches in
     let room = line.0 in
@@ -181,6 +181,6 @@ returns c =
 pub keep_line_spec : {M : Type 1} → statement M
 keep_line_spec =
     tie.close (tie.spec
-    slot_of-slot-requires key_of-key-requires begin_of-held-requires units_of-requires key_at-requires overflow_add-result (search rules)
+    slot_of-slot-requires key_of-key-requires begin_of-held-requires units_of-made-requires key_at-requires overflow_add-result (search rules)
     returns-then-key_at-key line_units-units-requires claim-at-requires overflow_add-from make_line-requires put_key-requires (search rules)
     (search rules) returns)

@@ -32,8 +32,8 @@ returns-then-table-size c =
     let b : (ltb tl a.j.size.count || ltb pl (length x.all.pixels)) ≡ true = rw (lt-ltb _ _ l) refl in
     leaves_refused _ _ _ _ _ _ (roomed text j tl pl) (room_short text j tl pl x.all x.gives b) (ap answer.Refused c.refusal.ensures) t s
 
-returns-then-pixels-area : tie.Need-returns-then-pixels-area
-returns-then-pixels-area c =
+returns-then-short : tie.Need-returns-then-short
+returns-then-short c =
     let at-start : tie.Start = search in
     let first : tie.After-fill_pieces = search in
     let roomy : tie.Else-table-size = search in
@@ -50,9 +50,9 @@ returns-then-pixels-area c =
     let g : pieces.Read n ≡ first.fill_pieces.result = sym c.in-Read.is in
     let x = pieces_told n (pieces_at text j a.j.size.count 0 0 a.j.next 2) (g ∙ first.fill_pieces.ensures.0) in
     let l : a.j.size.count ≤ tl = subst (λ (k : List (List ℕ)). a.j.size.count ≤ length k) t roomy.if-table-size.false in
-    let m : pl < length x.all.pixels = rw x.size at (subst (λ (k : List ℕ). length k < n) s c.before.if-pixels-area.true) in
+    let m : pl < length x.all.pixels = rw x.size at (subst (λ (k : List ℕ). length k < n) s c.before.if-short.true) in
     let b : (ltb tl a.j.size.count || ltb pl (length x.all.pixels)) ≡ true = rw (le-ltb _ _ l, lt-ltb _ _ m) refl in
-    leaves_refused _ _ _ _ _ _ (roomed text j tl pl) (room_short text j tl pl x.all x.gives b) (ap answer.Refused c.refusal-then-pixels-area.ensures) t s
+    leaves_refused _ _ _ _ _ _ (roomed text j tl pl) (room_short text j tl pl x.all x.gives b) (ap answer.Refused c.refusal-then-short.ensures) t s
 
 returns-in-Refused : tie.Need-returns-in-Refused
 returns-in-Refused c =
@@ -72,12 +72,12 @@ returns-in-Refused c =
     let e = pieces_not r (pieces_at text j a.j.size.count 0 0 a.j.next 2) (g ∙ first.fill_pieces.ensures.0) in
     leaves_refused r _ _ _ _ _ (roomed text j tl pl) (room_denied text j tl pl r e) refl t s
 
-returns-else-pixels-area : tie.Need-returns-else-pixels-area
-returns-else-pixels-area c =
+returns-else-short : tie.Need-returns-else-short
+returns-else-short c =
     let at-start : tie.Start = search in
     let first : tie.After-fill_pieces = search in
     let roomy : tie.Else-table-size = search in
-    let wide : tie.Else-pixels-area = search in
+    let wide : tie.Else-short = search in
     let second : tie.After-fill_pieces-in-Read = search in
     let a = at-start.args in
     let text = a.text.now in
@@ -92,7 +92,7 @@ returns-else-pixels-area c =
     let g : pieces.Read n ≡ first.fill_pieces.result = sym c.in-Read.is in
     let x = pieces_told n (pieces_at text j a.j.size.count 0 0 a.j.next 2) (g ∙ first.fill_pieces.ensures.0) in
     let l : a.j.size.count ≤ tl = subst (λ (k : List (List ℕ)). a.j.size.count ≤ length k) t roomy.if-table-size.false in
-    let m : length x.all.pixels ≤ pl = rw x.size at (subst (λ (k : List ℕ). n ≤ length k) s wide.if-pixels-area.false) in
+    let m : length x.all.pixels ≤ pl = rw x.size at (subst (λ (k : List ℕ). n ≤ length k) s wide.if-short.false) in
     let b : (ltb tl a.j.size.count || ltb pl (length x.all.pixels)) ≡ false = rw (le-ltb _ _ l, le-ltb _ _ m) refl in
     let e : roomed text j tl pl ≡ given (as_lent j x.all) = room_given text j tl pl x.all x.gives b in
     let f : JobFilled (table ++ a.table.now) second.fill_pieces-in-Read.new.table (store ++ a.pixels.now) second.fill_pieces-in-Read.new.pixels
@@ -110,5 +110,5 @@ read_pieces_spec =
     tie.close
     (tie.spec
     (search rules) (search rules) (search rules) (search rules) (search rules) (search rules) (search rules) (search rules) (search rules)
-    (search rules) returns-then-table-size (search rules) (search rules) (search rules) returns-then-pixels-area (search rules) (search rules)
-    (search rules) returns-in-Refused (search rules) (search rules) returns-else-pixels-area)
+    (search rules) returns-then-table-size (search rules) (search rules) (search rules) returns-then-short (search rules) (search rules)
+    (search rules) returns-in-Refused (search rules) (search rules) returns-else-short)

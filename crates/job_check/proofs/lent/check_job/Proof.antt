@@ -17,11 +17,11 @@ pixel_start-total-requires c κs =
     let f = table_facts a.size a.table.now (sym c.before.table_well.ensures ∙ c.if-not-table_well.false) in
     (f.entries, f.few)
 
-returns-then-pixels-total : tie.Need-returns-then-pixels-total
+returns-then-short : tie.Need-returns-then-short
 unfolding lent_well
-returns-then-pixels-total c =
+returns-then-short c =
     let at-table-well : tie.After-table_well = search in
-    simp (sym at-table-well.table_well.ensures ∙ c.before.before.if-not-table_well.false, ← c.before.pixel_start-total.ensures, lt-leb _ _ c.if-pixels-total.true)
+    simp (sym at-table-well.table_well.ensures ∙ c.before.before.if-not-table_well.false, ← c.before.pixel_start-total.ensures, lt-leb _ _ c.if-short.true)
 
 returns-then-not-all_bits : tie.Need-returns-then-not-all_bits
 unfolding lent_well
@@ -32,7 +32,7 @@ returns-then-not-all_bits c =
     simp (
       sym at-table-well.table_well.ensures ∙ at-else1.if-not-table_well.false,
       ← at-pixel-start.pixel_start-total.ensures,
-      le-leb _ _ c.before.before.if-pixels-total.false,
+      le-leb _ _ c.before.before.if-short.false,
       sym c.before.all_bits.ensures ∙ c.if-not-all_bits.true,
     )
 
@@ -48,14 +48,14 @@ boxes_tight-requires c κs =
 returns : tie.Need-returns
 unfolding lent_well
 returns c =
-    let at-else2 : tie.Else-pixels-total = search in
+    let at-else2 : tie.Else-short = search in
     let at-pixel-start : tie.After-pixel_start-total = search in
     let at-else1 : tie.Else-not-table_well = search in
     let at-table-well : tie.After-table_well = search in
     simp (
       sym at-table-well.table_well.ensures ∙ at-else1.if-not-table_well.false,
       ← at-pixel-start.pixel_start-total.ensures,
-      le-leb _ _ at-else2.if-pixels-total.false,
+      le-leb _ _ at-else2.if-short.false,
       sym c.before.before.all_bits.ensures ∙ c.before.if-not-all_bits.false,
       c.boxes_tight.ensures,
     )
@@ -63,5 +63,5 @@ returns c =
 pub check_job_spec : {M : Type 1} → statement M
 check_job_spec =
     tie.close (tie.spec
-    (search rules) returns-then-not-table_well pixel_start-total-requires returns-then-pixels-total (search rules) returns-then-not-all_bits
+    (search rules) returns-then-not-table_well pixel_start-total-requires returns-then-short (search rules) returns-then-not-all_bits
     boxes_tight-requires returns)

@@ -29,13 +29,13 @@ unfolding part
 handed c = rw (c.size_of-size.ensures, c.direction_of-direction.ensures) at c.stretch-strips.ensures
 
 -- it is there where it is not empty
-there : (c : tie.Then-length-ne0) →
+there : (c : tie.Then-given) →
     let at-start : tie.Start = search in
     StretchPassed (lentJob (at-start)) at-start.args.turns.now (lentStores (at-start)) at-start.args.piece (direction_of at-start.args.vertical)
 unfolding part
 there c =
     let called : tie.After-stretch-strips = search in
-    stretch_there _ _ _ _ _ (λ e. c.if-length-ne0.true (ap length (handed called) ∙ e))
+    stretch_there _ _ _ _ _ (λ e. c.if-given.true (ap length (handed called) ∙ e))
 
 size_of-size-requires : tie.Need-size_of-size-requires
 size_of-size-requires c κs = tt
@@ -49,22 +49,22 @@ stretch-strips-requires c κs = tt
 start_of-requires : tie.Need-start_of-requires
 start_of-requires c κs = let p = there c in (omega (arith, p.rows.there), omega (arith, p.columns.there))
 
-returns-then-length-ne0 : tie.Need-returns-then-length-ne0
+returns-then-given : tie.Need-returns-then-given
 unfolding part
-returns-then-length-ne0 c =
+returns-then-given c =
     let called : tie.After-stretch-strips = search in
-    let longer : tie.Then-length-ne0 = search in
+    let longer : tie.Then-given = search in
     (ap length (handed called), c.start_of.ensures ∙ start_left _ _ _ _ _ _ (there longer))
 
-returns-else-length-ne0 : tie.Need-returns-else-length-ne0
+returns-else-given : tie.Need-returns-else-given
 unfolding part
-returns-else-length-ne0 c =
+returns-else-given c =
     let called : tie.After-stretch-strips = search in
     let e = ap length (handed called) in
-    (e, start_kept _ _ _ _ _ _ (sym e ∙ c.if-length-ne0.false))
+    (e, start_kept _ _ _ _ _ _ (sym e ∙ c.if-given.false))
 
 pub sigbrol_stretch_spec : {M : Type 1} → statement M
 sigbrol_stretch_spec =
     tie.close
     (tie.spec
-    size_of-size-requires direction_of-direction-requires stretch-strips-requires start_of-requires returns-then-length-ne0 returns-else-length-ne0)
+    size_of-size-requires direction_of-direction-requires stretch-strips-requires start_of-requires returns-then-given returns-else-given)

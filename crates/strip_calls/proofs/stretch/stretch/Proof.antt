@@ -15,41 +15,41 @@ job s = lent_by s.args.size s.args.table.now s.args.pixels.now
 abbrev lent : tie.Start → Stores
 lent s = stores_by s.args.row_strips.now s.args.row_starts.now s.args.column_strips.now s.args.column_starts.now
 
-returns-then-stretch_refusal-ne0 : tie.Need-returns-then-stretch_refusal-ne0
-returns-then-stretch_refusal-ne0 c =
+returns-then-refused : tie.Need-returns-then-refused
+returns-then-refused c =
     let at-start : tie.Start = search in
     stretch_empty (stretch_call (job at-start) at-start.args.turns.now (lent at-start) at-start.args.piece at-start.args.direction)
-    (λ e. c.if-stretch_refusal-ne0.true (c.stretch_refusal.ensures ∙ e))
+    (λ e. c.if-refused.true (c.stretch_refusal-refused.ensures ∙ e))
 
 -- no number is told
-passed : (c : tie.Else-stretch_refusal-ne0) →
+passed : (c : tie.Else-refused) →
     let at-start : tie.Start = search in
     StretchPassed (job (at-start)) at-start.args.turns.now (lent (at-start)) at-start.args.piece at-start.args.direction
 passed c =
     let at-start : tie.Start = search in
     stretch_passed (job at-start) at-start.args.turns.now (lent at-start) at-start.args.piece at-start.args.direction
-    (sym c.stretch_refusal.ensures ∙ c.if-stretch_refusal-ne0.false)
+    (sym c.stretch_refusal-refused.ensures ∙ c.if-refused.false)
 
 part-requires : tie.Need-part-requires
 part-requires c κs =
-    let at-else1 : tie.Else-stretch_refusal-ne0 = search in
+    let at-else1 : tie.Else-refused = search in
     (passed (at-else1)).rows
 
 part-requires-in-Vertical : tie.Need-part-requires-in-Vertical
 part-requires-in-Vertical c κs =
-    let at-else1 : tie.Else-stretch_refusal-ne0 = search in
+    let at-else1 : tie.Else-refused = search in
     (passed (at-else1)).columns
 
 returns-in-Horizontal : tie.Need-returns-in-Horizontal
 returns-in-Horizontal c =
-    let at-else1 : tie.Else-stretch_refusal-ne0 = search in
+    let at-else1 : tie.Else-refused = search in
     let at-start : tie.Start = search in
     c.part.ensures ∙ ap (λ d. stretch_of d (lent at-start) at-start.args.piece) (sym c.in-Horizontal.is)
     ∙ ap stretch_given (sym (passed (at-else1)).gives)
 
 returns-in-Vertical : tie.Need-returns-in-Vertical
 returns-in-Vertical c =
-    let at-else1 : tie.Else-stretch_refusal-ne0 = search in
+    let at-else1 : tie.Else-refused = search in
     let at-start : tie.Start = search in
     c.part-in-Vertical.ensures ∙ ap (λ d. stretch_of d (lent at-start) at-start.args.piece) (sym c.in-Vertical.is)
     ∙ ap stretch_given (sym (passed (at-else1)).gives)
@@ -57,5 +57,5 @@ returns-in-Vertical c =
 pub stretch_spec : {M : Type 1} → statement M
 stretch_spec =
     tie.close (tie.spec
-    (search rules) (search rules) returns-then-stretch_refusal-ne0 (search rules) part-requires (search rules) part-requires-in-Vertical
+    (search rules) (search rules) returns-then-refused (search rules) part-requires (search rules) part-requires-in-Vertical
     returns-in-Horizontal returns-in-Vertical)
