@@ -21,7 +21,8 @@ fn entry_of(numbers: [u16; 4]) -> Entry
     ensures { result ≡ entry_of_numbers numbers }
 {
     let laid = numbers[0];
-    if laid > 1 {
+    let stray = laid > 1;
+    if stray {
         return stray_entry();
     }
     let turn = numbers[1];

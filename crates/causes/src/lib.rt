@@ -58,7 +58,6 @@ pub fn some_outside(size: JobSize, table: &[PieceEntry], layout: &[PlaceEntry]) 
 }
 
 // The causes of the layout's placements: 9, also where the call names a wrong piece, and 10.
-#[tactic(auto, unfolding(model::specs::Refusal::unless))]
 fn place_causes(
     size: JobSize,
     table: &[PieceEntry],

@@ -79,7 +79,8 @@ pub fn fill_rows(
     let mut left = w;
     while 0 < left {
         // the first row line is y = 0
-        if !fill_row(text, next, l, pixels, at + (w - left) * l) {
+        let first = at + (w - left) * l;
+        if !fill_row(text, next, l, pixels, first) {
             return RowsAnswer::Refused(refusal(1, line + (w - left)));
         }
         next += l + 5;

@@ -95,7 +95,8 @@ pub fn claim(bytes: &mut [u8], slots: usize, slot: usize, units: usize) -> usize
     requires fact_3 { (table_end slots + units * 8 ≤ length bytes.old) × (length bytes.old ≤ line_store_bound) }
     ensures { Claimed slots slot units bytes.old bytes.new result }
 {
-    let fits = units <= units_of(bytes, slots, slot);
+    let own = units_of(bytes, slots, slot);
+    let fits = units <= own;
     if fits {
         return begin_of(bytes, slots, slot);
     }

@@ -71,7 +71,6 @@ pub fn lay_refusal(
 }
 
 // Of withdraw: then 9 no such piece, 14 not laid, 15 locked.
-#[tactic(auto, unfolding(crate::specs::Causes::first_number, model::specs::Cover::withdraw_causes, model::specs::Lent::job_of))]
 pub fn withdraw_refusal(size: JobSize, table: &[PieceEntry], sheet: Record, piece: usize) -> u8
     requires { (size.count ≤ length table.now) × (size.count ≤ piece_bound) }
     ensures { (pixels counts : List ℕ) → result ≡ first_number (withdraw_causes (job_of (lent_by size table.now pixels)) (sheet_of sheet counts) piece) }

@@ -181,5 +181,6 @@ pub fn strips_well(direction: Direction, columns: usize, rows: usize, strips: &[
     if !at_place(strips, 0) {
         return false;
     }
-    at_place(strips, length - 1)
+    let last = length - 1;
+    at_place(strips, last)
 }

@@ -26,7 +26,8 @@ pub struct LineNumbers {
 fn end_byte(behind: usize) -> u8
     ensures { (result ≡ end_byte behind) × (0 < result) }
 {
-    if behind == 0 {
+    let last = behind == 0;
+    if last {
         return b'\n';
     }
     b','

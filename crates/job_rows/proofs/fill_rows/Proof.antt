@@ -27,22 +27,22 @@ loop-left-init c =
     let f : a.at + (a.w - a.w) * a.l ≡ a.at = rw z (omega arith) in
     (omega arith, omega arith, rw (f, e) refl, refl)
 
-overflow_mul-w : tie.Need-overflow_mul-w invariant-loop-left decreases-loop-left
-overflow_mul-w c =
+overflow_mul-first : tie.Need-overflow_mul-first invariant-loop-left decreases-loop-left
+overflow_mul-first c =
     let at-start : tie.Start invariant-loop-left decreases-loop-left = search in
     let a = at-start.args in
-    let d : a.w - c.before.before.loop-left.left ≤ 255 = omega arith in
+    let d : a.w - c.before.loop-left.left ≤ 255 = omega arith in
     let e : a.l ≤ 255 = omega arith in
-    let m : (a.w - c.before.before.loop-left.left) * a.l ≤ 255 * 255 = mul-le-mul d e in
+    let m : (a.w - c.before.loop-left.left) * a.l ≤ 255 * 255 = mul-le-mul d e in
     omega arith
 
-overflow_add-at : tie.Need-overflow_add-at invariant-loop-left decreases-loop-left
-overflow_add-at c =
+overflow_add-first : tie.Need-overflow_add-first invariant-loop-left decreases-loop-left
+overflow_add-first c =
     let at-start : tie.Start invariant-loop-left decreases-loop-left = search in
     let a = at-start.args in
-    let d : a.w - c.before.before.loop-left.left ≤ 255 = omega arith in
+    let d : a.w - c.before.loop-left.left ≤ 255 = omega arith in
     let e : a.l ≤ 255 = omega arith in
-    let m : (a.w - c.before.before.loop-left.left) * a.l ≤ 255 * 255 = mul-le-mul d e in
+    let m : (a.w - c.before.loop-left.left) * a.l ≤ 255 * 255 = mul-le-mul d e in
     omega arith
 
 fill_row-requires : tie.Need-fill_row-requires invariant-loop-left decreases-loop-left
@@ -122,6 +122,6 @@ returns c =
 pub fill_rows_spec : {M : Type 1} → statement M
 fill_rows_spec =
     tie.close (tie.spec
-    invariant-loop-left decreases-loop-left loop-left-init (search rules) overflow_mul-w overflow_add-at fill_row-requires (search rules)
+    invariant-loop-left decreases-loop-left loop-left-init (search rules) overflow_mul-first overflow_add-first fill_row-requires (search rules)
     (search rules) (search rules) shape_of-pixels-then-not-fill_row returns-then-not-fill_row (search rules) (search rules) (search rules)
     (search rules) loop-left-preserved shape_of-pixels returns)

@@ -62,13 +62,6 @@ slice_bounds-depth_below-end c =
     let at-store2 : tie.After-store-2-1 = search in
     let b = behind any_size (at-store2) in omega (arith, b.order, b.within)
 
-offset_bounds-strips-middle : tie.Need-offset_bounds-strips-middle
-offset_bounds-strips-middle c =
-    let at-store2 : tie.After-store-2-1 = search in
-    let at_fill : tie.After-fill-middle = search in
-    let few = first-few at-store2 in
-    let end = (at_fill.fill-middle.ensures any_size).end in omega arith
-
 slice_bounds-depth_below-count-2 : tie.Need-slice_bounds-depth_below-count-2
 slice_bounds-depth_below-count-2 c =
     let at-store2 : tie.After-store-2-1 = search in
@@ -120,5 +113,7 @@ pub depth_in_spec : {M : Type 1} → statement M
 depth_in_spec =
     tie.close (tie.spec
     (search rules) fill-end-requires (search rules) (search rules) (search rules) (search rules) (search rules) slice_bounds-depth_below-end
-    offset_bounds-strips-middle slice_bounds-depth_below-count-2 slice_bounds-depth_below-start-2 slice_bounds-depth_below-end-2 depth_below-requires
+    (λ c. let at-store2 : tie.After-store-2-1 = search in let at_fill : tie.After-fill-middle = search in
+    let few = first-few at-store2 in let end = (at_fill.fill-middle.ensures any_size).end in omega arith)
+    slice_bounds-depth_below-count-2 slice_bounds-depth_below-start-2 slice_bounds-depth_below-end-2 depth_below-requires
     (search rules) returns)

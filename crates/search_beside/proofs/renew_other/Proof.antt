@@ -73,15 +73,6 @@ overflow_add-penalties-2 c =
     let size = at-start.requires.1.1.1.1.size in
     omega arith
 
-bounds-penalties-k : tie.Need-bounds-penalties-k
-bounds-penalties-k c =
-    let at-start : tie.Start = search in
-    let few = (facts _ at-start.requires.0.well).few_pieces in
-    let i = at-start.requires.1.1.0.piece in
-    let k = at-start.requires.1.1.1.0.0 in
-    let size = at-start.requires.1.1.1.1.size in
-    simp length-set (omega arith)
-
 returns : tie.Need-returns
 returns c =
     let at-penalty-at : tie.After-penalty_at-p = search in
@@ -104,4 +95,8 @@ pub renew_other_spec : {M : Type 1} → statement M
 renew_other_spec =
     tie.close (tie.spec
     returns-then-k-i penalty_at-p-requires overflow_mul-penalties overflow_add-penalties bounds-penalties-i overflow_mul-penalties-2
-    overflow_add-penalties-2 bounds-penalties-k (search rules) (search rules) (search rules) returns)
+    overflow_add-penalties-2
+    (λ c. let at-start : tie.Start = search in let few = (facts _ at-start.requires.0.well).few_pieces in
+    let i = at-start.requires.1.1.0.piece in let k = at-start.requires.1.1.1.0.0 in let size = at-start.requires.1.1.1.1.size in
+    simp length-set (omega arith))
+    (search rules) (search rules) (search rules) returns)

@@ -10,11 +10,11 @@ free_units-place-requires c κs = let at-start : tie.Start = search in (at-start
 returns-then-fits : tie.Need-returns-then-fits
 returns-then-fits c =
     let at-start : tie.Start = search in
-    let at-units : tie.After-units_of = search in
+    let at-units : tie.After-units_of-own = search in
     let at-begin : tie.After-begin_of = search in
     let a = at-start.args in
     let own : tie.Then-fits = search in
-    let units = at-units.units_of.ensures.0 in
+    let units = at-units.units_of-own.ensures.0 in
     rw at-begin.begin_of.ensures (claim_own a.slots a.slot a.units a.bytes.now at-start.requires.0 (omega (arith, own.if-fits.true)))
 
 returns : tie.Need-returns

@@ -84,9 +84,6 @@ overflow_mul-penalties-in-loop-k c = let in-loop : tie.In-loop-k invariant-loop-
 overflow_add-penalties-in-loop-k : tie.Need-overflow_add-penalties-in-loop-k invariant-loop-k decreases-loop-k
 overflow_add-penalties-in-loop-k c = let in-loop : tie.In-loop-k invariant-loop-k decreases-loop-k = search in let t = there in-loop in omega arith
 
-bounds-penalties-k : tie.Need-bounds-penalties-k invariant-loop-k decreases-loop-k
-bounds-penalties-k c = let in-loop : tie.In-loop-k invariant-loop-k decreases-loop-k = search in let t = there in-loop in simp length-set (omega arith)
-
 overflow_add-k : tie.Need-overflow_add-k invariant-loop-k decreases-loop-k
 overflow_add-k c =
     let in-loop : tie.In-loop-k invariant-loop-k decreases-loop-k = search in
@@ -159,5 +156,7 @@ add_piece_spec =
     tie.close
     (tie.spec
     invariant-loop-k decreases-loop-k loop-k-init penalty_of-p-requires overflow_cast-p overflow_mul-penalties overflow_add-penalties
-    bounds-penalties-i overflow_mul-penalties-in-loop-k overflow_add-penalties-in-loop-k bounds-penalties-k overflow_add-k loop-k-smaller
+    bounds-penalties-i overflow_mul-penalties-in-loop-k overflow_add-penalties-in-loop-k
+    (λ c. let in-loop : tie.In-loop-k invariant-loop-k decreases-loop-k = search in let t = there in-loop in simp length-set (omega arith))
+    overflow_add-k loop-k-smaller
     loop-k-preserved shape_of-rows shape_of-row_spans shape_of-columns shape_of-column_spans shape_of-penalties returns)

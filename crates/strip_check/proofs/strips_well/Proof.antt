@@ -75,14 +75,18 @@ returns-then-not-at_place c =
     && any_below (length a.strips.now) (λ i. eqb (strip_in a.strips.now i).line (m - 1)))
     (first_fails _ (sym c.at_place.ensures ∙ c.if-not-at_place.true)))
 
-overflow_sub-length : tie.Need-overflow_sub-length
-overflow_sub-length c =
+-- a box has places along its strips, and lines too
+overflow_sub-last : tie.Need-overflow_sub-last
+overflow_sub-last c =
     let at-line-length : tie.After-line_length-length = search in
+    let at-line-count : tie.After-line_count-lines = search in
     let at-start : tie.Start = search in
     let a = at-start.args in
     let p = at-start.requires in
-    let e = at-line-length.line_length-length.ensures in
-    let h = side_some a.direction a.columns a.rows p.0 p.1 in
+    let places = at-line-length.line_length-length.ensures in
+    let some-place = side_some a.direction a.columns a.rows p.0 p.1 in
+    let lines = at-line-count.line_count-lines.ensures in
+    let some-line = side_some (other a.direction) a.columns a.rows p.0 p.1 in
     omega arith
 
 returns : tie.Need-returns
@@ -102,4 +106,4 @@ pub strips_well_spec : {M : Type 1} → statement M
 strips_well_spec =
     tie.close (tie.spec
     (search rules) (search rules) (search rules) returns-then-not-valid (search rules) returns-then-not-on_line overflow_sub-lines (search rules)
-    returns-then-not-on_line-2 (search rules) returns-then-not-at_place overflow_sub-length (search rules) returns)
+    returns-then-not-on_line-2 (search rules) returns-then-not-at_place overflow_sub-last (search rules) returns)

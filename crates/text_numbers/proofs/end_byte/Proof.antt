@@ -5,7 +5,7 @@ use Rattle.text_numbers.proofs.end_byte.Statement.{statement}
 use Rattle.text_numbers.proofs.end_byte.Tie as tie
 
 returns : tie.Need-returns
-returns c = (comma_before _ c.if-behind-eq0.false, omega arith)
+returns c = (comma_before _ c.if-last.false, omega arith)
 
 pub end_byte_spec : {M : Type 1} → statement M
 end_byte_spec = tie.close (tie.spec

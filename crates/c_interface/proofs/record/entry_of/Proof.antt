@@ -6,8 +6,8 @@ use Rattle.c_interface.proofs.Entries.{laid_wrong, turn_wrong, numbers_right}
 use Rattle.c_interface.proofs.record.entry_of.Statement.{statement}
 use Rattle.c_interface.proofs.record.entry_of.Tie as tie
 
-returns-then-laid-gt1 : tie.Need-returns-then-laid-gt1
-returns-then-laid-gt1 c = c.stray_entry.ensures ∙ sym (laid_wrong c.before.before.args.numbers (omega arith))
+returns-then-stray : tie.Need-returns-then-stray
+returns-then-stray c = c.stray_entry.ensures ∙ sym (laid_wrong c.before.before.args.numbers (omega arith))
 
 returns-in_default : tie.Need-returns-in_default
 returns-in_default c =
@@ -28,5 +28,5 @@ returns c =
 pub entry_of_spec : {M : Type 1} → statement M
 entry_of_spec =
     tie.close (tie.spec
-    (search rules) (search rules) returns-then-laid-gt1 (search rules) (search rules) (search rules) (search rules) (search rules) returns-in_default
+    (search rules) (search rules) returns-then-stray (search rules) (search rules) (search rules) (search rules) (search rules) returns-in_default
     (search rules) (search rules) (search rules) returns)
