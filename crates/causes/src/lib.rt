@@ -67,13 +67,15 @@ fn place_causes(
     requires { (size.count ≤ length table.now) × (length layout.now ≡ size.count) }
     ensures { (pixels : List ℕ) → result ≡ first_cause (place_causes (lent_by size table.now pixels) layout.now piece) }
 {
-    if some_turn_wrong(size, table, layout) {
+    let turned = some_turn_wrong(size, table, layout);
+    if turned {
         return refused(9);
     }
     if piece {
         return refused(9);
     }
-    if some_outside(size, table, layout) {
+    let outside = some_outside(size, table, layout);
+    if outside {
         return refused(10);
     }
     DoneAnswer::Done

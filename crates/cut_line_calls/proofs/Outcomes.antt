@@ -61,8 +61,3 @@ pub lines_answered : (l : Lent) (es : List (List ℕ)) (room : ℕ) {r : NumberA
     → (n : ℕ) → r ≡ NumberAnswer.Number n → CutListClaims l es
 lines_answered l es room {r} e n told =
     let w = count_given (cut_lines_call l es room) n (sym told ∙ e) in (cut_given l es room w.0 w.1).1
-
--- and so does one whose list has room or not, behind a check that passes
-pub room_answered : (l : Lent) (es : List (List ℕ)) (room : ℕ) {r : NumberAnswer} → DoneAnswer.Done ≡ done_answer (check_call l es)
-    → r ≡ count_answer (in_room (cut_lines (job_of l) (layout_of es)) room) → (n : ℕ) → r ≡ NumberAnswer.Number n → CutListClaims l es
-room_answered l es room e told = lines_answered l es room (told ∙ sym (ap count_answer (lines_passed l es room e)))

@@ -12,7 +12,7 @@ use layout_sum_calls::check;
 use model::{AREA_BOUND, DoneAnswer, JobSize, LineEntry, NumberAnswer, PieceEntry, PlaceEntry};
 
 // All lines to cut of a layout that passes the check, to the front of a line buffer, and how many there are; or a refusal.
-#[tactic(auto, using(crate::proofs::Outcomes::refused_answer, crate::proofs::Outcomes::refused_lines, crate::proofs::Outcomes::lines_answered, crate::proofs::Outcomes::lines_passed, crate::proofs::Outcomes::passed_laid))]
+#[tactic(auto, using(crate::proofs::Outcomes::refused_answer, crate::proofs::Outcomes::refused_lines, crate::proofs::Outcomes::lines_answered))]
 pub fn cut_lines(
     size: JobSize,
     table: &[PieceEntry],

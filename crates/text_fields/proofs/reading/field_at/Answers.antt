@@ -1,5 +1,5 @@
 -- `text_fields::reading::field_at`: wrong where there is no number or another byte behind it.
-use Rattle.list_laws.proofs.Kit.{◌∙◌, ◌≡◌, sym, ◌≤◌, arith, length}
+use Rattle.list_laws.proofs.Kit.{◌≢◌, ◌∙◌, ◌≡◌, sym, ◌≤◌, arith, length}
 use Rattle.model.specs.Text.{byte, number_at, got, wrong}
 use Rattle.text_fields.proofs.Steps.{byte_inside, got_of, wrong_of, field_none, field_wrong, field_got}
 use Rattle.text_fields.proofs.reading.field_at.Goals as goal
@@ -19,7 +19,8 @@ returns-then-byte_at-end c =
     let q = c.in-Got.next in
     let e : number_at text a.p ≡ got k q = got_of (number_at text a.p) k q c.in-Got.ensures.same in
     let b : c.byte_at.result ≡ byte text q = c.byte_at.ensures in
-    record { same = sym (field_wrong text a.p a.end k q e (λ h. c.if-byte_at-end.true (b ∙ h))); inside = omega arith; small = omega arith }
+    let other : c.byte_at.result ≢ a.end = c.if-byte_at-end.true in
+    record { same = sym (field_wrong text a.p a.end k q e (λ h. other (b ∙ h))); inside = omega arith; small = omega arith }
 
 pub returns : goal.returns
 returns c =
