@@ -21,15 +21,17 @@ cause_step : {A : Type 0} (c : Cause) (cs : List Cause) (a : A) (r : Refusal) (t
     → ◌≡◌ {A = Outcome A} (elim t as (λ _. Outcome A) [ true ↦ refused (refusal_of c) | false ↦ unless cs a ]) (refused r)
     → FirstCause (c ∷ cs) r
 cause_step c cs a r true h more e =
-    record { before = []; first = c; later = cs; listed = refl; none_before = tt; there = h; tells = cc }
+    let none : NoCause [] = tt in
+    record { before = []; first = c; later = cs; listed = refl; none_before = none; there = h; tells = cc }
 cause_step c cs a r false h more e =
     let f : FirstCause cs r = more e in
+    let none : NoCause (c ∷ f.before) = (h, f.none_before) in
     record {
       before = c ∷ f.before;
       first = f.first;
       later = f.later;
       listed = ap (λ (l : List Cause). c ∷ l) f.listed;
-      none_before = (h, f.none_before);
+      none_before = none;
       there = f.there;
       tells = f.tells;
     }
