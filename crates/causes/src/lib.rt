@@ -67,8 +67,8 @@ fn place_causes(
     requires { (size.count ≤ length table.now) × (length layout.now ≡ size.count) }
     ensures { (pixels : List ℕ) → result ≡ first_cause (place_causes (lent_by size table.now pixels) layout.now piece) }
 {
-    let turned = some_turn_wrong(size, table, layout);
-    if turned {
+    let wrong_turn = some_turn_wrong(size, table, layout);
+    if wrong_turn {
         return refused(9);
     }
     if piece {

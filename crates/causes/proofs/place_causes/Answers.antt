@@ -7,8 +7,8 @@ use Rattle.list_laws.proofs.Tests.{or_left, or_right}
 use Rattle.text_laws.proofs.Causes.{there, next, no_more}
 use Rattle.causes.proofs.place_causes.Goals as goal
 
-pub returns-then-turned : goal.returns-then-turned
-returns-then-turned c = λ pixels.
+pub returns-then-wrong_turn : goal.returns-then-wrong_turn
+returns-then-wrong_turn c = λ pixels.
     let j = job_of (lent_by c.args.size c.args.table.now pixels) in
     let turn : some_turn_wrong j c.args.layout.now ≡ true = grind arith in
     c.refused.ensures ∙ there 9 _ _ (or_left _ _ turn)

@@ -75,7 +75,7 @@ returns-then-not-at_place c =
     && any_below (length a.strips.now) (λ i. eqb (strip_in a.strips.now i).line (m - 1)))
     (first_fails _ (sym c.at_place.ensures ∙ c.if-not-at_place.true)))
 
--- a box has places along its strips, and lines too
+-- a box has places along its strips, and lines too: both are said, so that what takes the one for the other is refused for its answer
 overflow_sub-last : tie.Need-overflow_sub-last
 overflow_sub-last c =
     let at-line-length : tie.After-line_length-length = search in
