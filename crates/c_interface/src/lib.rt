@@ -7,7 +7,6 @@ ghost use Rattle.model.specs.Buffer.{direction_of};
 ghost use Rattle.c_interface.specs.Numbers.{size_as, line_of, piece_with_turn};
 ghost use Rattle.c_interface.specs.Replies.{done, refused_by};
 
-use layout_places::TurnAnswer;
 use model::{Column, Direction, JobSize, Line, PIECE_BOUND, Placement, Refusal, Row};
 
 pub mod record;
@@ -94,7 +93,7 @@ pub fn piece_with_turn(turn: u16, piece: usize) -> usize
     ensures { result ≡ piece_with_turn turn piece }
 {
     match layout_places::turn_of(turn) {
-        TurnAnswer::Known(_) => piece,
-        TurnAnswer::Unknown => PIECE_BOUND,
+        Some(_) => piece,
+        None => PIECE_BOUND,
     }
 }

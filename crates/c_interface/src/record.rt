@@ -2,7 +2,6 @@
 ghost use Rattle.std.specs.Prelude.{◌≡◌};
 ghost use Rattle.c_interface.specs.Records.{entry_numbers, entry_of_numbers, record_numbers, record_in, stray_entry};
 
-use layout_places::TurnAnswer;
 use model::{Entry, PIECE_BOUND, Record};
 
 // The entry that no list of calls gives.
@@ -26,9 +25,9 @@ fn entry_of(numbers: [u16; 4]) -> Entry
         return stray_entry();
     }
     let turn = numbers[1];
-    let TurnAnswer::Known(_) = layout_places::turn_of(turn) else {
+    if layout_places::turn_of(turn).is_none() {
         return stray_entry();
-    };
+    }
     let place = crate::placement_of(turn, numbers[2], numbers[3]);
     Entry {
         laid: laid == 1,
@@ -53,27 +52,16 @@ fn numbers_of(entry: Entry) -> [u16; 4]
 fn record_of(numbers: [[u16; 4]; PIECE_BOUND]) -> Record
     ensures { result ≡ record_in numbers }
 {
-    let mut pieces = [stray_entry(); PIECE_BOUND];
-    let mut i = 0;
-    while i < PIECE_BOUND {
-        pieces[i] = entry_of(numbers[i]);
-        i += 1;
+    Record {
+        pieces: numbers.map(entry_of),
     }
-    Record { pieces: pieces }
 }
 
 // The numbers of a record's 64 entries.
 fn record_numbers(sheet: Record) -> [[u16; 4]; PIECE_BOUND]
     ensures { result ≡ record_numbers sheet.pieces }
 {
-    let pieces = sheet.pieces;
-    let mut numbers = [[0u16; 4]; PIECE_BOUND];
-    let mut piece = 0;
-    while piece < PIECE_BOUND {
-        numbers[piece] = numbers_of(pieces[piece]);
-        piece += 1;
-    }
-    numbers
+    sheet.pieces.map(numbers_of)
 }
 
 // The record that a buffer holds.

@@ -1,6 +1,7 @@
 -- Document 01, 'When a call says no', checking a layout: a layout that passes is valid and no two of its pieces conflict; refusal 12
 -- names the pair that does, lowest first number, then lowest second. The pairs are listed in that order, and the check names
 -- the first that conflicts. Assumes nothing.
+use Rattle.std.specs.Prelude.{Ok}
 use Rattle.list_laws.proofs.Kit.{◌∙◌, ◌≡◌, ap, refl, subst, sym, Bool, false, true, ◌≢◌, ◌⊎◌, inl, inr, ⊎_elim, Option, none, some, List, Memᴰ}
 use Rattle.list_laws.proofs.Kit.{Memᴰ-cases_cons, Memᴰ-head, Memᴰ-not_nil, Memᴰ-tail, [], ◌∷◌, suc, zero, ℕ, arith, eq-eqb, length, not}
 use Rattle.model.specs.Layout.{Job, Layout, Pair, pairs_with, pairs_from, pairs, pair_conflicts, first_pair, conflicting_pair}
@@ -10,7 +11,6 @@ use Rattle.model.specs.Refusal.{Outcome, refused, given, Cause, unless, refusal_
 use Rattle.model.specs.Answers.{done_answer, first_cause}
 use Rattle.model.specs.Calls.{job_cause, layout_length, turns_cause, outside_cause, layout_causes, conflict_cause, check_causes, check_call}
 use Rattle.model.specs.declared.Refusal.{Refusal}
-use Rattle.model.specs.declared.DoneAnswer.{DoneAnswer}
 use Rattle.list_laws.proofs.Tests.{clash}
 use Rattle.strip_laws.specs.Lists.{Pairwise, none as no_more, more}
 use Rattle.strip_laws.proofs.Lists.{pairwise_append}
@@ -109,7 +109,7 @@ unfolding check_call
 check_first l es = refl
 
 -- where it passes none of them is there
-pub check_none : (l : Lent) (es : List (List ℕ)) → DoneAnswer.Done ≡ done_answer (check_call l es) → NoCause (check_causes l es)
+pub check_none : (l : Lent) (es : List (List ℕ)) → Ok tt ≡ done_answer (check_call l es) → NoCause (check_causes l es)
 check_none l es e = passed_none (check_causes l es) (e ∙ check_first l es)
 
 -- a layout that passes the check is valid, and no two of its pieces conflict

@@ -1,5 +1,7 @@
 -- Document 02, point 7, of a lent layout: a layout that is pushed passes the check, so that the request's claims hold of it, and its buffer afterwards
 -- passes it too. Assumes nothing.
+use Rattle.std.specs.Prelude.{Result, Ok}
+use Rattle.model.specs.declared.Refusal.{Refusal}
 use Rattle.list_laws.proofs.Kit.{◌∙◌, ◌≡◌, ap, refl, subst, sym, true, List, ℕ, arith}
 use Rattle.model.specs.Layout.{Layout}
 use Rattle.model.specs.Lent.{Lent, job_of, lent_well}
@@ -7,7 +9,6 @@ use Rattle.model.specs.Buffer.{layout_of, entries_of}
 use Rattle.model.specs.Refusal.{Outcome, refused, given}
 use Rattle.model.specs.Compact.{Compacted, at_rest, compact}
 use Rattle.model.specs.Calls.{layout_causes, check_causes, check_call, compact_call, compact_after, slid_answer}
-use Rattle.model.specs.declared.NumberAnswer.{NumberAnswer}
 use Rattle.text_laws.proofs.Entries.{entries_read_back}
 use Rattle.text_laws.proofs.Outcomes.{given_unless, unless_given}
 use Rattle.compact_laws.specs.Claims.{CompactClaims}
@@ -54,12 +55,12 @@ compact_given l es c e =
 -- ── what an answer tells ──
 
 -- an answer that tells a number tells a layout that is given
-slid_given : (o : Outcome Compacted) (n : ℕ) → NumberAnswer.Number n ≡ slid_answer o → (c : Compacted) × (o ≡ given c) × (n ≡ c.slid)
+slid_given : (o : Outcome Compacted) (n : ℕ) → Ok n ≡ slid_answer o → (c : Compacted) × (o ≡ given c) × (n ≡ c.slid)
 slid_given (refused r) n e = let z : ◌≡◌ {A = ℕ} 0 1 = cc in absurd (omega arith)
 slid_given (given c) n e = (c, refl, cc)
 
 -- an answer that tells the call's outcome says so of the buffer that it leaves
-pub compact_answered : (l : Lent) (es : List (List ℕ)) {r : NumberAnswer} → r ≡ slid_answer (compact_call l es) → (n : ℕ) → r ≡ NumberAnswer.Number n
+pub compact_answered : (l : Lent) (es : List (List ℕ)) {r : Result ℕ Refusal} → r ≡ slid_answer (compact_call l es) → (n : ℕ) → r ≡ Ok n
     → CompactedClaims l es (compact_after es (compact_call l es)) n
 compact_answered l es {r} e n told =
     let w = slid_given (compact_call l es) n (sym told ∙ e) in

@@ -1,5 +1,7 @@
 -- Document 02, point 1, the used length of a lent layout: from the smallest corner x to the largest right end, both attained by a piece,
 -- the same wherever the layout begins, and no longer than the sheet. Assumes nothing.
+use Rattle.std.specs.Prelude.{Result, Ok}
+use Rattle.model.specs.declared.Refusal.{Refusal}
 use Rattle.list_laws.proofs.Kit.{◌∙◌, ◌≡◌, ap, sym, ◌↔◌, List, ◌+◌, ◌<◌, ◌≤◌, ℕ, arith, leb-true}
 use Rattle.list_laws.proofs.Tests.{and_left}
 use Rattle.list_laws.proofs.Extremes.{Attained, all_passed, attained, max_one, min_one}
@@ -9,7 +11,6 @@ use Rattle.model.specs.Lent.{Lent, job_of}
 use Rattle.model.specs.Refusal.{given}
 use Rattle.model.specs.Answers.{number_answer}
 use Rattle.model.specs.Calls.{layout_causes, used_length_call}
-use Rattle.model.specs.declared.NumberAnswer.{NumberAnswer}
 use Rattle.job_laws.proofs.Checked.{lent_some}
 use Rattle.text_laws.proofs.Outcomes.{given_unless, number_given}
 use Rattle.descent_laws.specs.Claims.{ValidLayout}
@@ -140,6 +141,6 @@ used_given l es n e =
     rw (← u.same) (used_claims (job_of l) (layout_of es) (lent_some l (job_well l u.none.0)) v)
 
 -- an answer that tells the call's outcome says so of the number in it
-pub used_answered : (l : Lent) (es : List (List ℕ)) {r : NumberAnswer} → r ≡ number_answer (used_length_call l es)
-    → (r ≡ number_answer (used_length_call l es)) × ((n : ℕ) → r ≡ NumberAnswer.Number n → UsedClaims (job_of l) (layout_of es) n)
+pub used_answered : (l : Lent) (es : List (List ℕ)) {r : Result ℕ Refusal} → r ≡ number_answer (used_length_call l es)
+    → (r ≡ number_answer (used_length_call l es)) × ((n : ℕ) → r ≡ Ok n → UsedClaims (job_of l) (layout_of es) n)
 used_answered l es {r} e = (e, λ n told. used_given l es n (number_given (used_length_call l es) n (sym told ∙ e)))

@@ -1,5 +1,7 @@
 -- Document 02, point 5: the runs that a no-fit call leaves in the caller's buffer are those of the no-fit row or column, whose offsets lie between -254
 -- and 254 but for the gap; so do a run's first and last, since it is not empty. Assumes nothing.
+use Rattle.std.specs.Prelude.{Result, Ok}
+use Rattle.model.specs.declared.Refusal.{Refusal}
 use Rattle.list_laws.proofs.Kit.{◌∙◌, ◌≡◌, refl, subst, sym, List, Memᴰ, [], map, ◌<◌, ℕ, arith, get_or-append, drop, get_or, length}
 use Rattle.list_laws.proofs.Kit.{length-map, ◌+ℤ◌, pos, ℤ}
 use Rattle.list_laws.proofs.Lists.{member_at, Source, map_source}
@@ -11,7 +13,6 @@ use Rattle.model.specs.Lent.{Lent, job_of}
 use Rattle.model.specs.Refusal.{Outcome, refused, given}
 use Rattle.model.specs.Calls.{LentStretch, no_fit_of, no_fit_call, runs_after}
 use Rattle.model.specs.declared.Direction.{Direction}
-use Rattle.model.specs.declared.NumberAnswer.{NumberAnswer}
 use Rattle.job_laws.proofs.Checked.{lent_gap}
 use Rattle.text_laws.proofs.Outcomes.{given_unless}
 use Rattle.overlap_laws.specs.NoFit.{offset_reach, NoFitLine}
@@ -56,15 +57,15 @@ offsets_given d l p q o before rs e =
 
 -- what holds of the count of every list that is given holds of the count that is told
 told_count : (x : Outcome (List OffsetRun)) (Q : ℕ → Type 0) → ((rs : List OffsetRun) → x ≡ given rs → Q (length rs)) → (n : ℕ)
-    → count_answer x ≡ NumberAnswer.Number n → Q n
+    → count_answer x ≡ Ok n → Q n
 told_count (refused r) Q h n e = let z : ◌≡◌ {A = ℕ} 0 1 = cc in absurd (omega arith)
 told_count (given rs) Q h n e = let same : length rs ≡ n = cc in subst Q same (h rs refl)
 
 -- an answer and a buffer that are those of the call, with what is said of the offsets that it leaves
-pub offsets_answered : (d : Direction) (l : Lent) (p q : LentStretch) (o : ℤ) (before : List (List ℤ)) {after : List (List ℤ)} {r : NumberAnswer}
+pub offsets_answered : (d : Direction) (l : Lent) (p q : LentStretch) (o : ℤ) (before : List (List ℤ)) {after : List (List ℤ)} {r : Result ℕ Refusal}
     → r ≡ count_answer (no_fit_call d l p q o (length before)) → after ≡ runs_after before (no_fit_call d l p q o (length before))
     → (r ≡ count_answer (no_fit_call d l p q o (length before))) × ((after ≡ runs_after before (no_fit_call d l p q o (length before)))
-    × ((n : ℕ) → r ≡ NumberAnswer.Number n → OffsetsWithin l.size.gap n after))
+    × ((n : ℕ) → r ≡ Ok n → OffsetsWithin l.size.gap n after))
 offsets_answered d l p q o before {after} {r} answer memory =
     let call : Outcome (List OffsetRun) = no_fit_call d l p q o (length before) in
     let counted = told_count call (λ (m : ℕ). OffsetsWithin l.size.gap m (runs_after before call)) (offsets_given d l p q o before) in

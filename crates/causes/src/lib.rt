@@ -15,9 +15,7 @@ ghost use Rattle.causes.specs.Asked.{place_causes, call_causes, weighted_causes}
 
 use layout_places::numbers::pair_count;
 use layout_places::{allowed_degrees, inside, known, place_at};
-use model::{
-    DoneAnswer, JobSize, PIECE_BOUND, PieceEntry, PlaceEntry, Turn, WEIGHT_BOUND, refused,
-};
+use model::{JobSize, PIECE_BOUND, PieceEntry, PlaceEntry, Refusal, Turn, WEIGHT_BOUND, refused};
 
 // What a call's own tests found wrong, beside the job and the layout: a buffer's length (7), a number's range (2), a piece or its turn (9).
 #[derive(Clone, Copy)]
@@ -32,14 +30,7 @@ pub fn some_turn_wrong(size: JobSize, table: &[PieceEntry], layout: &[PlaceEntry
     requires { (size.count ≤ length table.now) × (length layout.now ≡ size.count) }
     ensures { (pixels : List ℕ) → result ≡ some_turn_wrong (job_of (lent_by size table.now pixels)) layout.now }
 {
-    let mut i = 0;
-    while i < size.count {
-        if !allowed_degrees(table, i, layout[i][0]) {
-            return true;
-        }
-        i += 1;
-    }
-    false
+    (0..size.count).any(|i| !allowed_degrees(table, i, layout[i][0]))
 }
 
 // Cause 10 of a layout: some piece's placement is outside.
@@ -47,14 +38,7 @@ pub fn some_outside(size: JobSize, table: &[PieceEntry], layout: &[PlaceEntry]) 
     requires { (size.count ≤ length table.now) × (length layout.now ≡ size.count) }
     ensures { (pixels : List ℕ) → result ≡ some_outside (job_of (lent_by size table.now pixels)) (layout_of layout.now) }
 {
-    let mut i = 0;
-    while i < size.count {
-        if !inside(size, table, i, place_at(layout, i)) {
-            return true;
-        }
-        i += 1;
-    }
-    false
+    (0..size.count).any(|i| !inside(size, table, i, place_at(layout, i)))
 }
 
 // The causes of the layout's placements: 9, also where the call names a wrong piece, and 10.
@@ -63,7 +47,7 @@ fn place_causes(
     table: &[PieceEntry],
     layout: &[PlaceEntry],
     piece: bool,
-) -> DoneAnswer
+) -> Result<(), Refusal>
     requires { (size.count ≤ length table.now) × (length layout.now ≡ size.count) }
     ensures { (pixels : List ℕ) → result ≡ first_cause (place_causes (lent_by size table.now pixels) layout.now piece) }
 {
@@ -78,7 +62,7 @@ fn place_causes(
     if outside {
         return refused(10);
     }
-    DoneAnswer::Done
+    Ok(())
 }
 
 // The causes of a call on a layout, with what its own tests found wrong: 8, 7, 2, 9, 10.
@@ -88,7 +72,7 @@ pub fn call_causes(
     pixels: &[u8],
     layout: &[PlaceEntry],
     wrong: Wrong,
-) -> DoneAnswer
+) -> Result<(), Refusal>
     ensures { result ≡ first_cause (call_causes (lent_by size table.now pixels.now) layout.now wrong) }
 {
     if !job_check::check_job(size, table, pixels) {
@@ -112,7 +96,7 @@ pub fn layout_causes(
     table: &[PieceEntry],
     pixels: &[u8],
     layout: &[PlaceEntry],
-) -> DoneAnswer
+) -> Result<(), Refusal>
     ensures { result ≡ first_cause (layout_causes (lent_by size table.now pixels.now) layout.now) }
 {
     let wrong = Wrong {
@@ -137,18 +121,9 @@ fn weights_missing(weights: &[u32], n: usize) -> bool
 fn some_weight_wrong(weights: &[u32]) -> bool
     ensures { result ≡ some_weight_wrong weights.now }
 {
-    let mut k = 0;
-    while k < weights.len() {
-        if weights[k] == 0 {
-            return true;
-        }
-        let heavy = WEIGHT_BOUND < weights[k];
-        if heavy {
-            return true;
-        }
-        k += 1;
-    }
-    false
+    weights
+        .iter()
+        .any(|weight| *weight == 0 || WEIGHT_BOUND < *weight)
 }
 
 // Cause 2 of a call on weights: a weight is out of range, or another number of the call is.
@@ -171,7 +146,7 @@ pub fn weighted_causes(
     weights: &[u32],
     number: bool,
     piece: bool,
-) -> DoneAnswer
+) -> Result<(), Refusal>
     ensures { result ≡ first_cause (weighted_causes (lent_by size table.now pixels.now) layout.now weights.now number piece) }
 {
     let wrong = Wrong {
@@ -192,7 +167,7 @@ pub fn placing_causes(
     weights: &[u32],
     piece: usize,
     turn: Turn,
-) -> DoneAnswer
+) -> Result<(), Refusal>
     ensures { result ≡ first_cause (placing_causes (lent_by size table.now pixels.now) layout.now weights.now piece turn) }
 {
     let wrong = !known(size, table, piece, turn);

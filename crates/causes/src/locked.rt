@@ -6,12 +6,11 @@ ghost use Rattle.model.specs.Layout.{is_locked, inside, place_of};
 ghost use Rattle.model.specs.Lent.{lent_by, job_of};
 ghost use Rattle.model.specs.Buffer.{layout_of};
 ghost use Rattle.model.specs.Calls.{allowed_degrees, locked_turn_wrong, locked_outside, start_causes};
-ghost use Rattle.model.specs.declared.DoneAnswer.{DoneAnswer};
 ghost use Rattle.model.specs.declared.JobSize.{JobSize};
 ghost use Rattle.causes.specs.Locked.{LockedWhole, LockedWritten};
 
 use layout_places::{allowed_degrees, inside, place_at};
-use model::{DoneAnswer, JobSize, PieceEntry, PlaceEntry, refused};
+use model::{JobSize, PieceEntry, PlaceEntry, Refusal, refused};
 use piece_table::is_locked;
 
 // The turn of an entry is not allowed to piece i.
@@ -52,14 +51,7 @@ fn some_turn_wrong(size: JobSize, table: &[PieceEntry], layout: &[PlaceEntry]) -
     ensures wrong { (pixels : List ℕ) → result ≡ locked_turn_wrong (job_of (lent_by size table.now pixels)) layout.now }
     ensures whole { result ≡ false → (pixels : List ℕ) → LockedWhole (job_of (lent_by size table.now pixels)) layout.now }
 {
-    let mut i = 0;
-    while i < size.count {
-        if turn_wrong(table, layout, i) {
-            return true;
-        }
-        i += 1;
-    }
-    false
+    (0..size.count).any(|i| turn_wrong(table, layout, i))
 }
 
 // Cause 10 of a start: some locked piece's placement is outside.
@@ -67,14 +59,7 @@ fn some_outside(size: JobSize, table: &[PieceEntry], layout: &[PlaceEntry]) -> b
     requires { (size.count ≤ length table.now) × (length layout.now ≡ size.count) }
     ensures { (pixels : List ℕ) → result ≡ locked_outside (job_of (lent_by size table.now pixels)) (layout_of layout.now) }
 {
-    let mut i = 0;
-    while i < size.count {
-        if outside(size, table, layout, i) {
-            return true;
-        }
-        i += 1;
-    }
-    false
+    (0..size.count).any(|i| outside(size, table, layout, i))
 }
 
 // The causes of a start: 8, 7, 9, 10.
@@ -83,9 +68,9 @@ pub fn start_causes(
     table: &[PieceEntry],
     pixels: &[u8],
     layout: &[PlaceEntry],
-) -> DoneAnswer
+) -> Result<(), Refusal>
     ensures first { result ≡ first_cause (start_causes (lent_by size table.now pixels.now) layout.now) }
-    ensures written { result ≡ DoneAnswer.Done → LockedWritten (job_of (lent_by size table.now pixels.now)) layout.now }
+    ensures written { result ≡ Ok tt → LockedWritten (job_of (lent_by size table.now pixels.now)) layout.now }
 {
     if !job_check::check_job(size, table, pixels) {
         return refused(8);
@@ -99,5 +84,5 @@ pub fn start_causes(
     if some_outside(size, table, layout) {
         return refused(10);
     }
-    DoneAnswer::Done
+    Ok(())
 }

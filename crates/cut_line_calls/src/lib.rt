@@ -9,26 +9,22 @@ ghost use Rattle.call_laws.specs.Cuts.{CutListClaims};
 
 use cut_list::layout_lines;
 use layout_sum_calls::check;
-use model::{AREA_BOUND, DoneAnswer, JobSize, LineEntry, NumberAnswer, PieceEntry, PlaceEntry};
+use model::{AREA_BOUND, JobSize, LineEntry, PieceEntry, PlaceEntry, Refusal};
 
 // All lines to cut of a layout that passes the check, to the front of a line buffer, and how many there are; or a refusal.
-#[tactic(auto, using(crate::proofs::Outcomes::refused_answer, crate::proofs::Outcomes::refused_lines, crate::proofs::Outcomes::lines_answered))]
+#[tactic(auto, using(crate::proofs::Outcomes::refused_answer, crate::proofs::Outcomes::refused_lines, crate::proofs::Outcomes::passed_laid, crate::proofs::Outcomes::passed_answer, crate::proofs::Outcomes::passed_lines, crate::proofs::Outcomes::passed_claims))]
 pub fn cut_lines(
     size: JobSize,
     table: &[PieceEntry],
     pixels: &[u8],
     layout: &[PlaceEntry],
     lines: &mut [LineEntry],
-) -> NumberAnswer
+) -> Result<u64, Refusal>
     ensures answer { result ≡ count_answer (cut_lines_call (lent_by size table.now pixels.now) layout.now (length lines.old)) }
     ensures memory { lines.new ≡ lines_after lines.old (cut_lines_call (lent_by size table.now pixels.now) layout.now (length lines.old)) }
-    ensures claims { (n : ℕ) → result ≡ NumberAnswer.Number n → CutListClaims (lent_by size table.now pixels.now) layout.now }
+    ensures claims { (n : ℕ) → result ≡ Ok n → CutListClaims (lent_by size table.now pixels.now) layout.now }
 {
-    match check(size, table, pixels, layout) {
-        DoneAnswer::Refused(refusal) => NumberAnswer::Refused(refusal),
-        DoneAnswer::Done => {
-            let mut owners = [0u8; AREA_BOUND];
-            layout_lines(size, table, pixels, layout, lines, &mut owners)
-        }
-    }
+    check(size, table, pixels, layout)?;
+    let mut owners = [0u8; AREA_BOUND];
+    layout_lines(size, table, pixels, layout, lines, &mut owners)
 }

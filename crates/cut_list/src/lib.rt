@@ -12,7 +12,7 @@ ghost use Rattle.cut_list.specs.Owned.{grid_of, owned_lines, in_room, SmallSheet
 
 use cut_owners::paint;
 use cut_scan::{Grid, put_lines};
-use model::{Direction, JobSize, LineEntry, NumberAnswer, PieceEntry, PlaceEntry, plain_refusal};
+use model::{Direction, JobSize, LineEntry, PieceEntry, PlaceEntry, Refusal, plain_refusal};
 
 // The owners of a sheet as a direction sees them, row by row in their buffer.
 fn grid_of(size: JobSize, direction: Direction) -> Grid
@@ -47,17 +47,17 @@ fn list_lines(size: JobSize, owners: &[u8], lines: &mut [LineEntry]) -> usize
 }
 
 // The lines between different owners, or refusal 7 where the buffer is too short for them.
-fn lines_of(size: JobSize, owners: &[u8], lines: &mut [LineEntry]) -> NumberAnswer
+fn lines_of(size: JobSize, owners: &[u8], lines: &mut [LineEntry]) -> Result<u64, Refusal>
     requires { SmallSheet size }
     ensures answer { result ≡ count_answer (in_room (owned_lines size owners.now) (length lines.old)) }
     ensures memory { lines.new ≡ lines_after lines.old (in_room (owned_lines size owners.now) (length lines.old)) }
 {
     let needed = list_lines(size, owners, &mut lines[..0]);
     if lines.len() < needed {
-        return NumberAnswer::Refused(plain_refusal(7));
+        return Err(plain_refusal(7));
     }
     list_lines(size, owners, lines);
-    NumberAnswer::Number(needed as u64)
+    Ok(needed as u64)
 }
 
 // The lines of a layout in which no two pieces conflict, or refusal 7; `owners` is room for those of the sheet's pixels.
@@ -68,7 +68,7 @@ pub fn layout_lines(
     layout: &[PlaceEntry],
     lines: &mut [LineEntry],
     owners: &mut [u8],
-) -> NumberAnswer
+) -> Result<u64, Refusal>
     requires { LaidApart (lent_by size table.now pixels.now) layout.now × (area_bound ≤ length owners.old) }
     ensures answer { result ≡ count_answer (in_room (cut_lines (job_of (lent_by size table.now pixels.now)) (layout_of layout.now)) (length lines.old)) }
     ensures memory { lines.new ≡ lines_after lines.old (in_room (cut_lines (job_of (lent_by size table.now pixels.now)) (layout_of layout.now)) (length lines.old)) }

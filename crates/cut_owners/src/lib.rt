@@ -51,10 +51,7 @@ pub fn paint(
     ensures { OwnersPainted (job_of (lent_by size table.now pixels.now)) (layout_of layout.now) owners.new }
 {
     sheet_counts::clear(owners);
-    let count = size.count;
-    let mut piece = 0;
-    while piece < count {
+    for piece in 0..size.count {
         paint_piece(size, table, pixels, layout, piece, owners);
-        piece += 1;
     }
 }

@@ -44,11 +44,6 @@ left_end_lem {d} {before} {now} {from} {at} {all} w =
     record { end = let h : at + length {A = Strip} [] ≡ from + length all = w.counted in sym (add-zero at) ∙ h; stored = w.stored }
 
 -- the buffer keeps its length
-pub left_length : {d : Direction} {before now : List (List ℕ)} {from at : ℕ} {rest all : List Strip} → Left d before from rest now at all
-    → length now ≡ length before
-left_length {d} {before} {now} {from} {at} {rest} {all} w =
-    sym (length-sets now at (line_entries d rest)) ∙ ap length w.stored ∙ length-sets before from (line_entries d all)
-
 pub appended_length : {d : Direction} {before after : List (List ℕ)} {at next : ℕ} {ts : List Strip} → LinesAppended d ts before at after next
     → length after ≡ length before
 appended_length {d} {before} {after} {at} {next} {ts} p = ap length p.stored ∙ length-sets before at (line_entries d ts)

@@ -142,12 +142,10 @@ fn put_row(
     let length = grid.length;
     let mut next = at;
     let mut run = 0;
-    let mut a = 0;
-    while a < length {
+    for a in 0..length {
         let passed = pass_unit(owners, grid, direction, line, a, run, lines, next);
         next = passed.at;
         run = passed.run;
-        a += 1;
     }
     close_run(direction, line, length, run, lines, next)
 }
@@ -166,10 +164,8 @@ pub fn put_lines(
 {
     let count = grid.lines;
     let mut next = at;
-    let mut line = 0;
-    while line <= count {
+    for line in 0..=count {
         next = put_row(owners, grid, direction, line, lines, next);
-        line += 1;
     }
     next
 }

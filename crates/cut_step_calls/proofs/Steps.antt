@@ -1,4 +1,5 @@
 -- The outcomes of the calls for a step: the causes in the request's order, and the lines read back from a buffer. Assumes nothing.
+use Rattle.std.specs.Prelude.{Ok, Err, Result}
 use Rattle.list_laws.proofs.Kit.{◌∙◌, ◌≡◌, ◌≢◌, ⊎_elim, ap, refl, sym, Bool, ◌||◌, false, true, not, Option, none, some, List, [], ◌++◌, ◌∷◌, map, ◌+◌, ◌<◌}
 use Rattle.list_laws.proofs.Kit.{◌≤◌, ℕ}
 use Rattle.list_laws.proofs.Kit.{arith, length, take, le-leb, le-ltb, lt-leb, lt-ltb, ltb}
@@ -12,8 +13,6 @@ use Rattle.model.specs.Cut.{CutLine, cut_lines, pitch_bound, step_at, step_in, l
 use Rattle.model.specs.Calls.{some_turn_wrong, job_cause, layout_length, turns_cause, outside_cause, layout_causes, conflict_cause, at_least, pitch_cause, cut_lines_call}
 use Rattle.model.specs.Calls.{lines_after, cut_step_call, line_step_call}
 use Rattle.model.specs.declared.Refusal.{Refusal}
-use Rattle.model.specs.declared.DoneAnswer.{DoneAnswer}
-use Rattle.model.specs.declared.NumberAnswer.{NumberAnswer}
 use Rattle.model.specs.declared.CutStep.{CutStep}
 use Rattle.text_laws.specs.Outcomes.{NoCause}
 use Rattle.text_laws.proofs.Outcomes.{unless_given, given_unless}
@@ -26,7 +25,6 @@ use Rattle.call_laws.specs.Cuts.{most_lines, CutListClaims}
 use Rattle.call_laws.proofs.Cuts.{cut_list_lem, step_given, entries_back, front_lines, same_steps}
 use Rattle.cut_line_calls.proofs.Outcomes.{count_given}
 use Rattle.cut_list.proofs.Listed.{enough_room}
-use Rattle.cut_step_calls.specs.declared.StepAnswer.{StepAnswer}
 use Rattle.cut_step_calls.specs.Answers.{step_answer, shared_step}
 
 -- ── the pitch ──
@@ -67,16 +65,16 @@ module _ (l : Lent) (es : List (List ℕ)) (pitch k : ℕ) where
   step_call = refl
 
   -- refused by one of them
-  pub step_refused : (b : Bool) (r : Refusal) → b ≡ not (up_to pitch_bound pitch) → DoneAnswer.Refused r ≡ first_cause (asked b)
+  pub step_refused : (b : Bool) (r : Refusal) → b ≡ not (up_to pitch_bound pitch) → Err r ≡ first_cause (asked b)
       → cut_step_call l es pitch k ≡ refused r
   step_refused b r e h = step_call ∙ sym (step_asked _ _ b e) ∙ refused_then (asked b) _ _ r h
 
   -- past them
-  pub step_passed : (b : Bool) → b ≡ not (up_to pitch_bound pitch) → DoneAnswer.Done ≡ first_cause (asked b) → cut_step_call l es pitch k ≡ shared_step l es pitch k
+  pub step_passed : (b : Bool) → b ≡ not (up_to pitch_bound pitch) → Ok tt ≡ first_cause (asked b) → cut_step_call l es pitch k ≡ shared_step l es pitch k
   step_passed b e h = step_call ∙ sym (step_asked _ _ b e) ∙ none_then (asked b) _ _ (passed_none (asked b) h)
 
   -- and so the layout's own causes are not there
-  pub step_none : (b : Bool) → DoneAnswer.Done ≡ first_cause (asked b) → NoCause (layout_causes l es)
+  pub step_none : (b : Bool) → Ok tt ≡ first_cause (asked b) → NoCause (layout_causes l es)
   unfolding layout_causes
   step_none b h =
       let n : NoCause (asked b) = passed_none (asked b) h in
@@ -117,7 +115,7 @@ same_refused {A} {B} c a b r e = by_test c.there e
     by_test false h = let z : ◌≡◌ {A = ℕ} 0 1 = cc in absurd (omega arith)
 
 -- what an answer tells of an outcome
-pub count_refused : (o : Outcome (List CutLine)) (r : Refusal) → NumberAnswer.Refused r ≡ count_answer o → o ≡ refused r
+pub count_refused : (o : Outcome (List CutLine)) (r : Refusal) → Err r ≡ count_answer o → o ≡ refused r
 count_refused (refused s) r e = cc
 count_refused (given ls) r e = let z : ◌≡◌ {A = ℕ} 0 1 = cc in absurd (omega arith)
 
@@ -133,13 +131,13 @@ pub record LinesTold (l : Lent) (es : List (List ℕ)) (room n : ℕ) : Type 0 w
   pub step : (pitch k : ℕ) → shared_step l es pitch k ≡ given (step_in pitch (step_at (cut_lines (job_of l) (layout_of es)) k))
 
 pub lines_told : (l : Lent) (es : List (List ℕ)) → NoCause (layout_causes l es) → (room n : ℕ) → most_lines ≤ room
-    → NumberAnswer.Number n ≡ count_answer (cut_lines_call l es room) → LinesTold l es room n
+    → Ok n ≡ count_answer (cut_lines_call l es room) → LinesTold l es room n
 lines_told l es passed room n h e =
     let o = lines_left l es passed room h in
     let w = count_given (cut_lines_call l es room) n e in
     let u = given_unless _ _ w.0 (sym o ∙ w.1) in
     let lines : cut_lines_call l es room ≡ given (cut_lines (job_of l) (layout_of es)) = w.1 ∙ ap given (sym u.same) in
-    let told : NumberAnswer.Number n ≡ NumberAnswer.Number (length (cut_lines (job_of l) (layout_of es))) = e ∙ ap count_answer lines in
+    let told : Ok n ≡ Ok (length (cut_lines (job_of l) (layout_of es))) = e ∙ ap count_answer lines in
     record { lines = lines; count = cc; step = λ pitch k. unless_given _ _ u.none }
 
 -- ── the lines read back ──
@@ -163,18 +161,18 @@ module _ (lines : List (List ℕ)) (pitch k : ℕ) (b : Bool) (wrong : b ≡ not
   line_given e = unless_given (pitch_cause pitch ∷ []) _ (sym wrong ∙ e, tt)
 
 -- so an answer for such lines is the layout's answer
-pub same_answer : {r : StepAnswer} (lines : List (List ℕ)) (pitch k : ℕ) → r ≡ step_answer (line_step_call lines pitch k)
+pub same_answer : {r : Result CutStep Refusal} (lines : List (List ℕ)) (pitch k : ℕ) → r ≡ step_answer (line_step_call lines pitch k)
     → (l : Lent) (es before : List (List ℕ)) (ms : List CutLine) → cut_lines_call l es (length before) ≡ given ms
     → lines ≡ take (length ms) (lines_after before (cut_lines_call l es (length before))) → r ≡ step_answer (cut_step_call l es pitch k)
 same_answer lines pitch k e l es before ms o same =
     e ∙ ap (λ (xs : List (List ℕ)). step_answer (line_step_call xs pitch k)) same ∙ ap step_answer (same_steps l es before ms pitch k o)
 
 -- an answer that tells a step says so of the layout
-pub step_answered : (l : Lent) (es : List (List ℕ)) (pitch k : ℕ) {r : StepAnswer} → r ≡ step_answer (cut_step_call l es pitch k)
-    → (t : CutStep) → r ≡ StepAnswer.Step t → CutListClaims l es × StepExact (cut_lines (job_of l) (layout_of es)) pitch k t
+pub step_answered : (l : Lent) (es : List (List ℕ)) (pitch k : ℕ) {r : Result CutStep Refusal} → r ≡ step_answer (cut_step_call l es pitch k)
+    → (t : CutStep) → r ≡ Ok t → CutListClaims l es × StepExact (cut_lines (job_of l) (layout_of es)) pitch k t
 step_answered l es pitch k {r} e t told = by_outcome (cut_step_call l es pitch k) refl (sym told ∙ e)
   where
-    by_outcome : (o : Outcome CutStep) → cut_step_call l es pitch k ≡ o → StepAnswer.Step t ≡ step_answer o
+    by_outcome : (o : Outcome CutStep) → cut_step_call l es pitch k ≡ o → Ok t ≡ step_answer o
         → CutListClaims l es × StepExact (cut_lines (job_of l) (layout_of es)) pitch k t
     by_outcome (refused r) h q = let z : ◌≡◌ {A = ℕ} 0 1 = cc in absurd (omega arith)
     by_outcome (given u) h q = let same : u ≡ t = cc in step_given l es pitch k t (h ∙ ap given same)

@@ -17,19 +17,11 @@ use causes::{Wrong, call_causes};
 use cut_line_calls::cut_lines;
 use cut_steps::step_of;
 use model::{
-    CutStep, DoneAnswer, JobSize, LineEntry, NumberAnswer, PITCH_BOUND, PieceEntry, PlaceEntry,
-    Refusal, plain_refusal,
+    CutStep, JobSize, LineEntry, PITCH_BOUND, PieceEntry, PlaceEntry, Refusal, plain_refusal,
 };
 
 // No layout has more lines.
 const MOST_LINES: usize = 70145;
-
-// What a call for a step answers: the step, or why it is refused.
-#[derive(Clone, Copy)]
-pub enum StepAnswer {
-    Step(CutStep),
-    Refused(Refusal),
-}
 
 // Cause 2 of a pitch: it is none of 1 to 4,096.
 fn pitch_wrong(pitch: u32) -> bool
@@ -58,17 +50,13 @@ fn listed_step(
     pitch: u32,
     step: u64,
     lines: &mut [LineEntry],
-) -> StepAnswer
+) -> Result<CutStep, Refusal>
     requires { NoCause (layout_causes (lent_by size table.now pixels.now) layout.now) × (most_lines ≤ length lines.old) }
     ensures { result ≡ step_answer (shared_step (lent_by size table.now pixels.now) layout.now pitch step) }
 {
-    match cut_lines(size, table, pixels, layout, lines) {
-        NumberAnswer::Refused(refusal) => StepAnswer::Refused(refusal),
-        NumberAnswer::Number(count) => {
-            let n = count as usize;
-            StepAnswer::Step(step_of(&lines[..n], pitch, step))
-        }
-    }
+    let count = cut_lines(size, table, pixels, layout, lines)?;
+    let n = count as usize;
+    Ok(step_of(&lines[..n], pitch, step))
 }
 
 // Step number `step` of the cut list of a layout that passes the check, in millimetres, or a refusal.
@@ -79,32 +67,28 @@ pub fn cut_step(
     layout: &[PlaceEntry],
     pitch: u32,
     step: u64,
-) -> StepAnswer
+) -> Result<CutStep, Refusal>
     ensures answer { result ≡ step_answer (cut_step_call (lent_by size table.now pixels.now) layout.now pitch step) }
-    ensures claims { (t : CutStep) → result ≡ StepAnswer.Step t → CutListClaims (lent_by size table.now pixels.now) layout.now × StepExact (cut_lines (job_of (lent_by size table.now pixels.now)) (layout_of layout.now)) pitch step t }
+    ensures claims { (t : CutStep) → result ≡ Ok t → CutListClaims (lent_by size table.now pixels.now) layout.now × StepExact (cut_lines (job_of (lent_by size table.now pixels.now)) (layout_of layout.now)) pitch step t }
 {
     let wrong = Wrong {
         length: false,
         number: pitch_wrong(pitch),
         piece: false,
     };
-    match call_causes(size, table, pixels, layout, wrong) {
-        DoneAnswer::Refused(refusal) => StepAnswer::Refused(refusal),
-        DoneAnswer::Done => {
-            let mut lines = room_for_lines();
-            listed_step(size, table, pixels, layout, pitch, step, &mut lines)
-        }
-    }
+    call_causes(size, table, pixels, layout, wrong)?;
+    let mut lines = room_for_lines();
+    listed_step(size, table, pixels, layout, pitch, step, &mut lines)
 }
 
 // Step number `step` of a list of lines, in millimetres, or a refusal: of the lines that `cut_lines` stored, the answer is that of `cut_step`.
-pub fn line_step(lines: &[LineEntry], pitch: u32, step: u64) -> StepAnswer
+pub fn line_step(lines: &[LineEntry], pitch: u32, step: u64) -> Result<CutStep, Refusal>
     ensures answer { result ≡ step_answer (line_step_call lines.now pitch step) }
     ensures same { (l : Lent) (layout before : List (List ℕ)) (ls : List CutLine) → cut_lines_call l layout (length before) ≡ given ls → lines.now ≡ take (length ls) (lines_after before (cut_lines_call l layout (length before))) → result ≡ step_answer (cut_step_call l layout pitch step) }
-    ensures exact { (t : CutStep) → result ≡ StepAnswer.Step t → StepExact (map entry_line lines.now) pitch step t }
+    ensures exact { (t : CutStep) → result ≡ Ok t → StepExact (map entry_line lines.now) pitch step t }
 {
     if pitch_wrong(pitch) {
-        return StepAnswer::Refused(plain_refusal(2));
+        return Err(plain_refusal(2));
     }
-    StepAnswer::Step(step_of(lines, pitch, step))
+    Ok(step_of(lines, pitch, step))
 }

@@ -4,8 +4,8 @@
 #![tactic(auto)]
 
 use cut_line_calls::cut_lines;
-use cut_step_calls::{StepAnswer, cut_step, line_step};
-use model::{CutStep, JobSize, LineEntry, NumberAnswer, PieceEntry, PlaceEntry, Refusal};
+use cut_step_calls::{cut_step, line_step};
+use model::{CutStep, JobSize, LineEntry, PieceEntry, PlaceEntry, Refusal};
 use std::io;
 use std::io::Stdout;
 
@@ -95,8 +95,8 @@ fn show_lines(
 ) -> io::Result<()> {
     let mut lines = [[0u16; 4]; 8];
     match cut_lines(size, table, pixels, layout, &mut lines) {
-        NumberAnswer::Refused(refusal) => put_refusal(out, refusal),
-        NumberAnswer::Number(count) => {
+        Err(refusal) => put_refusal(out, refusal),
+        Ok(count) => {
             print!(out; "lines")?;
             put(out, count)?;
             end_line(out)?;
@@ -145,10 +145,10 @@ fn put_step(out: Stdout, step: CutStep) -> io::Result<()> {
 }
 
 // An answer for a step.
-fn put_answer(out: Stdout, answer: StepAnswer) -> io::Result<()> {
+fn put_answer(out: Stdout, answer: Result<CutStep, Refusal>) -> io::Result<()> {
     match answer {
-        StepAnswer::Refused(refusal) => put_refusal(out, refusal),
-        StepAnswer::Step(step) => put_step(out, step),
+        Err(refusal) => put_refusal(out, refusal),
+        Ok(step) => put_step(out, step),
     }
 }
 

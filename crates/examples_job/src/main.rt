@@ -3,7 +3,6 @@
 // Then lends a piece with gaps and locks that no text has or has.
 #![tactic(auto)]
 
-use job_calls::JobAnswer;
 use model::{JobSize, PieceEntry};
 use std::io;
 use std::io::Stdout;
@@ -42,13 +41,13 @@ fn show(out: Stdout, text: &[u8]) -> io::Result<()> {
     let mut table = [[0u8; 4]; 4];
     let mut pixels = [0u8; 16];
     match job_calls::read_job(text, &mut table, &mut pixels) {
-        JobAnswer::Refused(r) => {
+        Err(r) => {
             print!(out; "refused")?;
             put(out, r.number as u64)?;
             put(out, r.first as u64)?;
             println!(out)
         }
-        JobAnswer::Read(size) => {
+        Ok(size) => {
             print!(out; "read")?;
             put(out, size.rows as u64)?;
             put(out, size.columns as u64)?;

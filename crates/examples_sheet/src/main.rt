@@ -6,7 +6,7 @@
 ghost use Rattle.std.specs.Prelude.{◌<◌};
 
 use job_lock_calls::{CUTTERS_STATION, PLANNERS_STATION};
-use model::{Column, DoneAnswer, JobSize, PieceEntry, Placement, Record, Row, Turn};
+use model::{Column, JobSize, PieceEntry, Placement, Record, Refusal, Row, Turn};
 use sheet_calls::SheetAnswer;
 use std::io;
 use std::io::Stdout;
@@ -29,10 +29,10 @@ fn digit(k: u8) -> u8 {
 }
 
 // The number of a refusal, or 0.
-fn number(reply: DoneAnswer) -> u8 {
+fn number(reply: Result<(), Refusal>) -> u8 {
     match reply {
-        DoneAnswer::Done => 0,
-        DoneAnswer::Refused(refusal) => refusal.number,
+        Ok(()) => 0,
+        Err(refusal) => refusal.number,
     }
 }
 

@@ -4,12 +4,10 @@
 #![tactic(auto)]
 
 use model::{
-    ColumnOffset, Coordinate, Direction, End, JobSize, Line, NumberAnswer, PieceEntry, PlaceEntry,
-    Row, RowOffset, StripEntry, Turn,
+    ColumnOffset, Coordinate, Direction, End, JobSize, Line, PieceEntry, PlaceEntry, Refusal, Row,
+    RowOffset, StripEntry, Turn,
 };
 use pair_nofit_calls::PieceInTurn;
-use run_descent_calls::DescentAnswer;
-use search_calls::SearchAnswer;
 use std::io;
 use std::io::Stdout;
 
@@ -114,10 +112,10 @@ fn put_run(out: Stdout, runs: &[[i32; 2]; 8], k: usize) -> io::Result<()> {
 }
 
 // How many runs there are, and up to two of them.
-fn put_runs(out: Stdout, answer: NumberAnswer, runs: &[[i32; 2]; 8]) -> io::Result<()> {
+fn put_runs(out: Stdout, answer: Result<u64, Refusal>, runs: &[[i32; 2]; 8]) -> io::Result<()> {
     match answer {
-        NumberAnswer::Refused(refusal) => put_refused(out, refusal.number),
-        NumberAnswer::Number(count) => {
+        Err(refusal) => put_refused(out, refusal.number),
+        Ok(count) => {
             put(out, count)?;
             if 0 < count {
                 put_run(out, runs, 0)?;
@@ -131,10 +129,10 @@ fn put_runs(out: Stdout, answer: NumberAnswer, runs: &[[i32; 2]; 8]) -> io::Resu
 }
 
 // A depth or a penalty.
-fn put_amount(out: Stdout, answer: NumberAnswer) -> io::Result<()> {
+fn put_amount(out: Stdout, answer: Result<u64, Refusal>) -> io::Result<()> {
     match answer {
-        NumberAnswer::Refused(refusal) => put_refused(out, refusal.number),
-        NumberAnswer::Number(n) => put(out, n),
+        Err(refusal) => put_refused(out, refusal.number),
+        Ok(n) => put(out, n),
     }
 }
 
@@ -155,7 +153,7 @@ fn show_rows(out: Stdout, turns: [u16; 6], piece: usize, side: u16) -> io::Resul
     let mut row_starts = [0u32; 7];
     let mut columns = [[0u8; 3]; 26];
     let mut column_starts = [0u32; 7];
-    strip_calls::strips(
+    let _ = strip_calls::strips(
         SIZE,
         &table,
         &pixels,
@@ -179,7 +177,7 @@ fn show_rows(out: Stdout, turns: [u16; 6], piece: usize, side: u16) -> io::Resul
     );
     put_strips(out, stretch)?;
     let mut again = [2u8; 9];
-    strip_rebuild_calls::rebuild(side, side, Direction::Horizontal, stretch, &mut again);
+    let _ = strip_rebuild_calls::rebuild(side, side, Direction::Horizontal, stretch, &mut again);
     put_pixels(out, &again)?;
     end_line(out)
 }
@@ -269,7 +267,7 @@ fn show_no_fit(
     let mut row_starts = [0u32; 7];
     let mut columns = [[0u8; 3]; 26];
     let mut column_starts = [0u32; 7];
-    strip_calls::strips(
+    let _ = strip_calls::strips(
         SIZE,
         &table,
         &pixels,
@@ -354,10 +352,10 @@ fn show_search(out: Stdout) -> io::Result<()> {
         Line::InRow(Row(0)),
     );
     match answer {
-        SearchAnswer::Refused(refusal) => put_refused(out, refusal.number)?,
-        SearchAnswer::Best(sum, place) => {
-            put_coordinate(out, place)?;
-            put(out, sum as u64)?;
+        Err(refusal) => put_refused(out, refusal.number)?,
+        Ok(best) => {
+            put_coordinate(out, best.at)?;
+            put(out, best.sum)?;
         }
     }
     end_line(out)
@@ -379,8 +377,8 @@ fn show_descent(out: Stdout, columns: usize, budget: u32) -> io::Result<()> {
         budget,
         &mut workspace,
     ) {
-        DescentAnswer::Refused(refusal) => put_refused(out, refusal.number)?,
-        DescentAnswer::Ended(ended) => {
+        Err(refusal) => put_refused(out, refusal.number)?,
+        Ok(ended) => {
             let end = ended.end;
             put_end(out, end)?;
             put(out, ended.sum)?;

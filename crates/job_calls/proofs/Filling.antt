@@ -7,7 +7,9 @@ use Rattle.model.specs.Piece.{tight}
 use Rattle.model.specs.Text.{and_then, cause_in}
 use Rattle.model.specs.JobText.{JobLine, PieceLine, pixel_mark, Rows, rows_at, box_shape, PieceText, rows_causes, as_piece_text, piece_line, piece_at, Pieces}
 use Rattle.model.specs.JobText.{with_piece, no_pieces, pieces_at, as_lent, buffer_causes, job_line, read_job}
+use Rattle.model.specs.declared.JobSize.{JobSize}
 use Rattle.model.specs.declared.Refusal.{Refusal}
+use Rattle.std.specs.Prelude.{Result, Ok, Err}
 use Rattle.list_laws.proofs.Stores.{sets_append}
 use Rattle.text_laws.specs.Outcomes.{Unless}
 use Rattle.text_laws.proofs.Outcomes.{refused_given, given_before, given_unless}
@@ -16,16 +18,9 @@ use Rattle.job_check.specs.Boxes.{box_in}
 use Rattle.job_lines.specs.Lines.{refusal_at, head_of, job_line_of, job_answer, piece_of, piece_line_of, piece_answer}
 use Rattle.job_rows.specs.Stores.{rows_answer, RowsStored}
 use Rattle.job_calls.specs.Reading.{box_at, place_answer, BoxStored, Entered, PieceStored, pieces_answer, PiecesStored, roomed, Leaves}
-use Rattle.job_calls.specs.declared.JobAnswer.{JobAnswer}
-use Rattle.job_calls.specs.declared.JobAnswer.TheVariants as answer
 use Rattle.job_lines.specs.declared.JobHead.{JobHead}
-use Rattle.job_lines.specs.declared.JobLineAnswer.TheVariants as job
 use Rattle.job_lines.specs.declared.PieceHead.{PieceHead}
-use Rattle.job_lines.specs.declared.PieceLineAnswer.TheVariants as piece
 use Rattle.job_calls.specs.declared.reader.Place.{Place}
-use Rattle.job_calls.specs.declared.reader.PieceAnswer.TheVariants as place
-use Rattle.job_calls.specs.declared.reader.PiecesAnswer.TheVariants as pieces
-use Rattle.job_rows.specs.declared.RowsAnswer.TheVariants as rows
 use Rattle.job_rows.proofs.Marks.{rows_facts}
 
 -- ── the box of a piece ──
@@ -44,20 +39,12 @@ pub record Told (at : ℕ) (before last : List ℕ) (next : ℕ) (x : Outcome Ro
   pub after : lines.next ≡ next
   pub stores : last ≡ sets before at lines.pixels
 
-pub rows_told : (at : ℕ) (before last : List ℕ) (next : ℕ) (x : Outcome Rows) → rows.Next next ≡ rows_answer x → RowsStored at before last x
+pub rows_told : (at : ℕ) (before last : List ℕ) (next : ℕ) (x : Outcome Rows) → Ok next ≡ rows_answer x → RowsStored at before last x
     → Told at before last next x
-rows_told at before last next (refused s) e k = let z : ◌≡◌ {A = ℕ} 0 1 = cc in absurd (omega arith)
+rows_told at before last next (refused s) e k = cc
 rows_told at before last next (given r) e k = let z : next ≡ r.next = cc in record { lines = r; gives = refl; after = sym z; stores = k }
 
-pub rows_denied : (s : Refusal) (x : Outcome Rows) → rows.Refused s ≡ rows_answer x → x ≡ refused s
-rows_denied s (refused t) e = let z : s ≡ t = cc in ap refused (sym z)
-rows_denied s (given r) e = let z : ◌≡◌ {A = ℕ} 0 1 = cc in absurd (omega arith)
-
 module _ (text : List ℕ) (line : ℕ) (h : PieceLine) where
-  -- a row is refused
-  pub box_denied : (s : Refusal) → rows_at text h.columns h.rows h.next (suc line) ≡ refused s → box_at text line h ≡ refused s
-  box_denied s e = ap (λ (x : Outcome Rows). and_then x (λ r. unless (rows_causes line h r) (as_piece_text h r))) e
-
   -- the box is loose
   pub box_loose : (r : Rows) → rows_at text h.columns h.rows h.next (suc line) ≡ given r → tight (box_shape h.columns h.rows r.pixels) ≡ false
       → box_at text line h ≡ refused (refusal_at loose_box (line + h.rows))
@@ -73,12 +60,12 @@ module _ (text : List ℕ) (line : ℕ) (h : PieceLine) where
 -- ── a piece ──
 
 -- what an answer says of a piece line
-pub line_denied : (s : Refusal) (x : Outcome PieceLine) → piece.Refused s ≡ piece_answer x → x ≡ refused s
+pub line_denied : (s : Refusal) (x : Outcome PieceLine) → Err s ≡ piece_answer x → x ≡ refused s
 line_denied s (refused t) e = let z : s ≡ t = cc in ap refused (sym z)
-line_denied s (given h) e = let z : ◌≡◌ {A = ℕ} 0 1 = cc in absurd (omega arith)
+line_denied s (given h) e = cc
 
-pub line_told : (h : PieceHead) (x : Outcome PieceLine) → piece.Line h ≡ piece_answer x → x ≡ given (piece_line_of h)
-line_told h (refused t) e = let z : ◌≡◌ {A = ℕ} 0 1 = cc in absurd (omega arith)
+pub line_told : (h : PieceHead) (x : Outcome PieceLine) → Ok h ≡ piece_answer x → x ≡ given (piece_line_of h)
+line_told h (refused t) e = cc
 line_told h (given k) e = let z : h ≡ piece_of k = cc in ap (λ (g : PieceHead). given (piece_line_of g)) (sym z)
 
 module _ (text : List ℕ) (j : JobLine) (i area p line : ℕ) where
@@ -150,13 +137,13 @@ pub record Placed (area line : ℕ) (at : Place) (x : Outcome PieceText) : Type 
   pub gives : x ≡ given piece
   pub same : at ≡ place_read area line piece
 
-pub place_told : (area line : ℕ) (at : Place) (x : Outcome PieceText) → place.Read at ≡ place_answer area line x → Placed area line at x
-place_told area line at (refused s) e = let z : ◌≡◌ {A = ℕ} 0 1 = cc in absurd (omega arith)
+pub place_told : (area line : ℕ) (at : Place) (x : Outcome PieceText) → Ok at ≡ place_answer area line x → Placed area line at x
+place_told area line at (refused s) e = cc
 place_told area line at (given t) e = let z : at ≡ place_read area line t = cc in record { piece = t; gives = refl; same = z }
 
-pub place_denied : (area line : ℕ) (s : Refusal) (x : Outcome PieceText) → place.Refused s ≡ place_answer area line x → x ≡ refused s
+pub place_denied : (area line : ℕ) (s : Refusal) (x : Outcome PieceText) → Err s ≡ place_answer area line x → x ≡ refused s
 place_denied area line s (refused t) e = let z : s ≡ t = cc in ap refused (sym z)
-place_denied area line s (given t) e = let z : ◌≡◌ {A = ℕ} 0 1 = cc in absurd (omega arith)
+place_denied area line s (given t) e = cc
 
 module _ (text : List ℕ) (j : JobLine) (left i area p line : ℕ) (table : List (List ℕ)) (store : List ℕ) where
   -- a piece is refused
@@ -201,7 +188,7 @@ module _ (text : List ℕ) (j : JobLine) (left i area p line : ℕ) (table : Lis
       (pieces_at text j left (suc i) (area + t.columns * t.rows) t.next (suc (line + t.rows)))
 
   -- the same, where a call stored the piece
-  pub pieces_step : (at : Place) (lastTable : List (List ℕ)) (lastStore : List ℕ) → place.Read at ≡ place_answer area line (piece_at text j i area p line)
+  pub pieces_step : (at : Place) (lastTable : List (List ℕ)) (lastStore : List ℕ) → Ok at ≡ place_answer area line (piece_at text j i area p line)
       → PieceStored i area table lastTable store lastStore (piece_at text j i area p line)
       → fill_pieces text j (suc left) i area p line table store ≡ fill_pieces text j left (suc i) at.area at.next at.line lastTable lastStore
   pieces_step at lastTable lastStore e k =
@@ -236,18 +223,18 @@ module _ (text : List ℕ) (j : JobLine) (i area p line : ℕ) (table : List (Li
 -- what stands in table and store after all
 pub pieces_given : (table lastTable : List (List ℕ)) (store lastStore : List ℕ) (area : ℕ) (x : Outcome Pieces)
     → and_then x (full 0 0 table store) ≡ given (record { table = lastTable; pixels = lastStore; area = area })
-    → (pieces.Read area ≡ pieces_answer x) × PiecesStored table lastTable store lastStore x
+    → (Ok area ≡ pieces_answer x) × PiecesStored table lastTable store lastStore x
 pieces_given table lastTable store lastStore area (refused s) e = absurd (refused_given e)
 pieces_given table lastTable store lastStore area (given x) e =
     let y : ◌≡◌ {A = Full} (record { table = sets table 0 x.table; pixels = sets store 0 x.pixels; area = 0 + length x.pixels })
     (record { table = lastTable; pixels = lastStore; area = area }) = cc in
     let n : 0 + length x.pixels ≡ area = ap (λ (f : Full). f.area) y in
     let m : area ≡ length x.pixels = omega arith in
-    (ap pieces.Read m, record { entries = ap (λ (f : Full). f.table) (sym y); pixels = ap (λ (f : Full). f.pixels) (sym y) })
+    (ap Ok m, record { entries = ap (λ (f : Full). f.table) (sym y); pixels = ap (λ (f : Full). f.pixels) (sym y) })
 
 pub pieces_refused : (table lastTable : List (List ℕ)) (store lastStore : List ℕ) (s : Refusal) (x : Outcome Pieces)
-    → and_then x (full 0 0 table store) ≡ refused s → (pieces.Refused s ≡ pieces_answer x) × PiecesStored table lastTable store lastStore x
-pieces_refused table lastTable store lastStore s (refused t) e = let z : t ≡ s = cc in (ap pieces.Refused (sym z), tt)
+    → and_then x (full 0 0 table store) ≡ refused s → (Err s ≡ pieces_answer x) × PiecesStored table lastTable store lastStore x
+pieces_refused table lastTable store lastStore s (refused t) e = let z : t ≡ s = cc in (ap Err (sym z), tt)
 pieces_refused table lastTable store lastStore s (given x) e = absurd (refused_given (sym e))
 
 -- what an answer says of all pieces
@@ -256,13 +243,9 @@ pub record Counted (n : ℕ) (x : Outcome Pieces) : Type 0 where
   pub gives : x ≡ given all
   pub size : n ≡ length all.pixels
 
-pub pieces_told : (n : ℕ) (x : Outcome Pieces) → pieces.Read n ≡ pieces_answer x → Counted n x
-pieces_told n (refused s) e = let z : ◌≡◌ {A = ℕ} 0 1 = cc in absurd (omega arith)
+pub pieces_told : (n : ℕ) (x : Outcome Pieces) → Ok n ≡ pieces_answer x → Counted n x
+pieces_told n (refused s) e = cc
 pieces_told n (given x) e = let z : n ≡ length x.pixels = cc in record { all = x; gives = refl; size = z }
-
-pub pieces_not : (s : Refusal) (x : Outcome Pieces) → pieces.Refused s ≡ pieces_answer x → x ≡ refused s
-pieces_not s (refused t) e = let z : s ≡ t = cc in ap refused (sym z)
-pieces_not s (given x) e = let z : ◌≡◌ {A = ℕ} 0 1 = cc in absurd (omega arith)
 
 -- as many entries as pieces
 pub pieces_count : (text : List ℕ) (j : JobLine) (left i area p line : ℕ) (x : Pieces) → pieces_at text j left i area p line ≡ given x → length x.table ≡ left
@@ -286,10 +269,6 @@ module _ (text : List ℕ) (j : JobLine) (tableLength pixelsLength : ℕ) where
   abbrev there : Pieces → Outcome Lent
   there x = unless (buffer_causes tableLength pixelsLength (as_lent j x)) (as_lent j x)
 
-  -- a piece is refused
-  pub room_denied : (s : Refusal) → pieces_at text j j.size.count 0 0 j.next 2 ≡ refused s → roomed text j tableLength pixelsLength ≡ refused s
-  room_denied s e = ap (λ (x : Outcome Pieces). and_then x there) e
-
   -- a buffer is too short
   pub room_short : (x : Pieces) → pieces_at text j j.size.count 0 0 j.next 2 ≡ given x
       → (ltb tableLength j.size.count || ltb pixelsLength (length x.pixels)) ≡ true
@@ -304,22 +283,22 @@ module _ (text : List ℕ) (j : JobLine) (tableLength pixelsLength : ℕ) where
   room_given x e b = ap (λ (y : Outcome Pieces). and_then y there) e ∙ ap (λ (t : Bool). unless (cause wrong_length t ∷ []) (as_lent j x)) b
 
 -- a refusal leaves table and store
-pub leaves_refused : (s : Refusal) (r : JobAnswer) (table lastTable : List (List ℕ)) (store lastStore : List ℕ) (o : Outcome Lent) → o ≡ refused s
-    → r ≡ answer.Refused s → lastTable ≡ table → lastStore ≡ store → Leaves r table lastTable store lastStore o
+pub leaves_refused : (s : Refusal) (r : Result JobSize Refusal) (table lastTable : List (List ℕ)) (store lastStore : List ℕ) (o : Outcome Lent) → o ≡ refused s
+    → r ≡ Err s → lastTable ≡ table → lastStore ≡ store → Leaves r table lastTable store lastStore o
 leaves_refused s r table lastTable store lastStore (refused t) e a b c =
     let z : t ≡ s = cc in
-    record { answers = a ∙ ap answer.Refused (sym z); entries = b; pixels = c }
+    record { answers = a ∙ ap Err (sym z); entries = b; pixels = c }
 leaves_refused s r table lastTable store lastStore (given k) e a b c = absurd (refused_given (sym e))
 
 -- ── the job ──
 
 -- what an answer says of the job line
-pub head_denied : (s : Refusal) (x : Outcome JobLine) → job.Refused s ≡ job_answer x → x ≡ refused s
+pub head_denied : (s : Refusal) (x : Outcome JobLine) → Err s ≡ job_answer x → x ≡ refused s
 head_denied s (refused t) e = let z : s ≡ t = cc in ap refused (sym z)
-head_denied s (given j) e = let z : ◌≡◌ {A = ℕ} 0 1 = cc in absurd (omega arith)
+head_denied s (given j) e = cc
 
-pub head_told : (j : JobHead) (x : Outcome JobLine) → job.Line j ≡ job_answer x → x ≡ given (job_line_of j)
-head_told j (refused t) e = let z : ◌≡◌ {A = ℕ} 0 1 = cc in absurd (omega arith)
+pub head_told : (j : JobHead) (x : Outcome JobLine) → Ok j ≡ job_answer x → x ≡ given (job_line_of j)
+head_told j (refused t) e = cc
 head_told j (given k) e = let z : j ≡ head_of k = cc in ap (λ (h : JobHead). given (job_line_of h)) (sym z)
 
 module _ (text : List ℕ) (tableLength pixelsLength : ℕ) where

@@ -1,18 +1,15 @@
 -- From the pieces of a job text as document 01's definitions read them to the answers of this crate's calls, and what the calls leave in
 -- the lent table and store. Assumes nothing.
-use Rattle.std.specs.Prelude.{List, [], ◌∷◌, ◌≡◌, ℕ, suc, ◌+◌, ◌*◌, ◌≤◌, length, set}
+use Rattle.std.specs.Prelude.{Result, Ok, Err, List, [], ◌∷◌, ◌≡◌, ℕ, suc, ◌+◌, ◌*◌, ◌≤◌, length, set}
 use Rattle.std.proofs.lemmas.List.Edits.{sets}
 use Rattle.model.specs.Refusal.{Outcome, refused, given, unless}
 use Rattle.model.specs.Lent.{Lent, area_bound}
 use Rattle.model.specs.Text.{and_then}
 use Rattle.model.specs.JobText.{JobLine, PieceLine, rows_at, PieceText, rows_causes, as_piece_text, Pieces, pieces_at, as_lent, buffer_causes}
 use Rattle.model.specs.Calls.{table_after, store_after}
-use Rattle.job_calls.specs.declared.JobAnswer.{JobAnswer}
-use Rattle.job_calls.specs.declared.JobAnswer.TheVariants as answer
-use Rattle.job_calls.specs.declared.reader.PieceAnswer.{PieceAnswer}
-use Rattle.job_calls.specs.declared.reader.PieceAnswer.TheVariants as piece
-use Rattle.job_calls.specs.declared.reader.PiecesAnswer.{PiecesAnswer}
-use Rattle.job_calls.specs.declared.reader.PiecesAnswer.TheVariants as pieces
+use Rattle.model.specs.declared.JobSize.{JobSize}
+use Rattle.model.specs.declared.Refusal.{Refusal}
+use Rattle.job_calls.specs.declared.reader.Place.{Place}
 
 -- ── a piece ──
 
@@ -22,15 +19,15 @@ box_at text line h =
     and_then (rows_at text h.columns h.rows h.next (suc line)) (λ r. unless (rows_causes line h r) (as_piece_text h r))
 
 -- where reading stands after a piece, or its refusal
-abbrev pub place_answer : ℕ → ℕ → Outcome PieceText → PieceAnswer
-place_answer area line (refused r) = piece.Refused r
+abbrev pub place_answer : ℕ → ℕ → Outcome PieceText → Result Place Refusal
+place_answer area line (refused r) = Err r
 place_answer area line (given t) =
-    piece.Read (record { area = area + t.columns * t.rows; next = t.next; line = line + t.rows + 1 })
+    Ok (record { area = area + t.columns * t.rows; next = t.next; line = line + t.rows + 1 })
 
 -- reading stands inside the text, with areas within 65,536 and at most 256 lines on
-abbrev pub PlaceWithin : List ℕ → ℕ → PieceAnswer → Type 0
-PlaceWithin text line (piece.Refused r) = Unit {0}
-PlaceWithin text line (piece.Read p) = (p.next ≤ length text) × (p.area ≤ area_bound) × (p.line ≤ line + 256)
+abbrev pub PlaceWithin : List ℕ → ℕ → Result Place Refusal → Type 0
+PlaceWithin text line (Err r) = Unit {0}
+PlaceWithin text line (Ok p) = (p.next ≤ length text) × (p.area ≤ area_bound) × (p.line ≤ line + 256)
 
 -- the pixels of a piece that is read are stored
 abbrev pub BoxStored : ℕ → List ℕ → List ℕ → Outcome PieceText → Type 0
@@ -49,9 +46,9 @@ PieceStored i at table lastTable store lastStore (given t) = Entered i at table 
 -- ── all pieces ──
 
 -- how many pixel bytes there are, or the refusal
-abbrev pub pieces_answer : Outcome Pieces → PiecesAnswer
-pieces_answer (refused r) = pieces.Refused r
-pieces_answer (given x) = pieces.Read (length x.pixels)
+abbrev pub pieces_answer : Outcome Pieces → Result ℕ Refusal
+pieces_answer (refused r) = Err r
+pieces_answer (given x) = Ok (length x.pixels)
 
 -- the table and the pixels of pieces that are read are stored
 pub record JobFilled (table lastTable : List (List ℕ)) (store lastStore : List ℕ) (x : Pieces) : Type 0 where
@@ -70,13 +67,13 @@ roomed text j tableLength pixelsLength =
     and_then (pieces_at text j j.size.count 0 0 j.next 2) (λ r. unless (buffer_causes tableLength pixelsLength (as_lent j r)) (as_lent j r))
 
 -- the numbers of a job that is read, or the refusal
-abbrev pub read_answer : Outcome Lent → JobAnswer
-read_answer (refused r) = answer.Refused r
-read_answer (given k) = answer.Read k.size
+abbrev pub read_answer : Outcome Lent → Result JobSize Refusal
+read_answer (refused r) = Err r
+read_answer (given k) = Ok k.size
 
 -- what reading a job answers and leaves in the lent table and store: the outcome's numbers, entries and pixel bytes, what lies beyond
 -- untouched, and on a refusal nothing written
-pub record Leaves (r : JobAnswer) (table lastTable : List (List ℕ)) (store lastStore : List ℕ) (o : Outcome Lent) : Type 0 where
+pub record Leaves (r : Result JobSize Refusal) (table lastTable : List (List ℕ)) (store lastStore : List ℕ) (o : Outcome Lent) : Type 0 where
   pub answers : r ≡ read_answer o
   pub entries : lastTable ≡ table_after table o
   pub pixels : lastStore ≡ store_after store o

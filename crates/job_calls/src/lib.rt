@@ -4,10 +4,3 @@
 mod reader;
 
 pub use reader::read_job;
-
-// What reading a job answers: the job's numbers, its table and pixels being filled, or a refusal.
-#[derive(Clone, Copy)]
-pub enum JobAnswer {
-    Read(model::JobSize),
-    Refused(model::Refusal),
-}

@@ -7,13 +7,10 @@ ghost use Rattle.job_check.specs.Boxes.{Side};
 ghost use Rattle.job_lines.specs.Lines.{job_line_of, piece_line_of};
 ghost use Rattle.job_calls.specs.Reading.{PlaceWithin, box_at, place_answer, BoxStored, PieceStored, pieces_answer, PiecesStored, roomed, Leaves};
 
-use crate::JobAnswer;
 use job_check::box_tight;
-use job_lines::{
-    JobHead, JobLineAnswer, PieceHead, PieceLineAnswer, job_line, piece_line, refusal,
-};
-use job_rows::{RowsAnswer, fill_rows};
-use model::{PieceEntry, Refusal};
+use job_lines::{JobHead, PieceHead, job_line, piece_line, refusal};
+use job_rows::fill_rows;
+use model::{JobSize, PieceEntry, Refusal};
 use piece_table::piece_entry;
 
 // Where reading stands: the areas of the boxes so far, the position and the line of what follows.
@@ -22,20 +19,6 @@ struct Place {
     area: usize,
     next: usize,
     line: usize,
-}
-
-// Where reading stands after a piece, or why the piece is refused.
-#[derive(Clone, Copy)]
-enum PieceAnswer {
-    Read(Place),
-    Refused(Refusal),
-}
-
-// How many pixel bytes all pieces have, or why one is refused.
-#[derive(Clone, Copy)]
-enum PiecesAnswer {
-    Read(usize),
-    Refused(Refusal),
 }
 
 // Stores an entry of the table; past its end nothing is stored.
@@ -49,24 +32,26 @@ fn put_entry(table: &mut [PieceEntry], i: usize, entry: PieceEntry)
 }
 
 // Stores the rows of a piece and tests its box, whose pixels stand in the text, each row 5 bytes longer than the box.
-fn fill_box(text: &[u8], h: PieceHead, area: usize, line: usize, pixels: &mut [u8]) -> PieceAnswer
+fn fill_box(
+    text: &[u8],
+    h: PieceHead,
+    area: usize,
+    line: usize,
+    pixels: &mut [u8],
+) -> Result<Place, Refusal>
     requires { (h.next ≤ length text.now) × Side h.columns × Side h.rows × (area + h.columns * h.rows ≤ area_bound) × (line ≤ 65536) }
     ensures { (result ≡ place_answer area line (box_at text.now line (piece_line_of h))) × PlaceWithin text.now line result × BoxStored area pixels.old pixels.new (box_at text.now line (piece_line_of h)) }
 {
     let start = h.next;
-    match fill_rows(text, start, h.columns, h.rows, line + 1, pixels, area) {
-        RowsAnswer::Refused(r) => PieceAnswer::Refused(r),
-        RowsAnswer::Next(next) => {
-            if !box_tight(b'#', text, start + 4, h.columns + 5, h.columns, h.rows) {
-                return PieceAnswer::Refused(refusal(5, line + h.rows));
-            }
-            PieceAnswer::Read(Place {
-                area: area + h.columns * h.rows,
-                next,
-                line: line + h.rows + 1,
-            })
-        }
+    let next = fill_rows(text, start, h.columns, h.rows, line + 1, pixels, area)?;
+    if !box_tight(b'#', text, start + 4, h.columns + 5, h.columns, h.rows) {
+        return Err(refusal(5, line + h.rows));
     }
+    Ok(Place {
+        area: area + h.columns * h.rows,
+        next,
+        line: line + h.rows + 1,
+    })
 }
 
 // Stores piece i, whose line stands where reading stands.
@@ -77,21 +62,22 @@ fn fill_piece(
     at: Place,
     table: &mut [PieceEntry],
     pixels: &mut [u8],
-) -> PieceAnswer
+) -> Result<Place, Refusal>
     requires { (at.next ≤ length text.now) × (at.area ≤ area_bound) × (at.line ≤ 65536) }
     ensures { (result ≡ place_answer at.area at.line (piece_at text.now (job_line_of j) i at.area at.next at.line)) × PlaceWithin text.now at.line result × PieceStored i at.area table.old table.new pixels.old pixels.new (piece_at text.now (job_line_of j) i at.area at.next at.line) }
 {
-    match piece_line(text, j, i, at.area, at.next, at.line) {
-        PieceLineAnswer::Refused(r) => PieceAnswer::Refused(r),
-        PieceLineAnswer::Line(h) => {
-            put_entry(table, i, piece_entry(h.columns, h.rows, h.turns, h.lock));
-            fill_box(text, h, at.area, at.line, pixels)
-        }
-    }
+    let h = piece_line(text, j, i, at.area, at.next, at.line)?;
+    put_entry(table, i, piece_entry(h.columns, h.rows, h.turns, h.lock));
+    fill_box(text, h, at.area, at.line, pixels)
 }
 
-// Stores all pieces behind the job line; nothing follows the last.
-fn fill_pieces(text: &[u8], j: JobHead, table: &mut [PieceEntry], pixels: &mut [u8]) -> PiecesAnswer
+// Stores all pieces behind the job line; nothing follows the last. How many pixel bytes they have, or why one is refused.
+fn fill_pieces(
+    text: &[u8],
+    j: JobHead,
+    table: &mut [PieceEntry],
+    pixels: &mut [u8],
+) -> Result<usize, Refusal>
     requires { (j.next ≤ length text.now) × (j.size.count ≤ piece_bound) }
     ensures { (result ≡ pieces_answer (pieces_at text.now (job_line_of j) j.size.count 0 0 j.next 2)) × PiecesStored table.old table.new pixels.old pixels.new (pieces_at text.now (job_line_of j) j.size.count 0 0 j.next 2) }
 {
@@ -101,54 +87,49 @@ fn fill_pieces(text: &[u8], j: JobHead, table: &mut [PieceEntry], pixels: &mut [
         next: j.next,
         line: 2,
     };
-    let mut i = 0;
-    while i < count {
-        match fill_piece(text, j, i, at, table, pixels) {
-            PieceAnswer::Refused(r) => {
-                return PiecesAnswer::Refused(r);
-            }
-            PieceAnswer::Read(place) => {
-                at = place;
-            }
-        }
-        i += 1;
+    for i in 0..count {
+        at = fill_piece(text, j, i, at, table, pixels)?;
     }
     if at.next != text.len() {
-        return PiecesAnswer::Refused(refusal(1, at.line));
+        return Err(refusal(1, at.line));
     }
-    PiecesAnswer::Read(at.area)
+    Ok(at.area)
 }
 
 // The pieces behind the job line: a run over empty buffers, then the room, then the run that writes.
-fn read_pieces(text: &[u8], j: JobHead, table: &mut [PieceEntry], pixels: &mut [u8]) -> JobAnswer
+fn read_pieces(
+    text: &[u8],
+    j: JobHead,
+    table: &mut [PieceEntry],
+    pixels: &mut [u8],
+) -> Result<JobSize, Refusal>
     requires { (j.next ≤ length text.now) × (j.size.count ≤ piece_bound) }
     ensures { Leaves result table.old table.new pixels.old pixels.new (roomed text.now (job_line_of j) (length table.old) (length pixels.old)) }
 {
     let no_entries = 0;
     let no_bytes = 0;
-    match fill_pieces(text, j, &mut table[..no_entries], &mut pixels[..no_bytes]) {
-        PiecesAnswer::Refused(r) => JobAnswer::Refused(r),
-        PiecesAnswer::Read(area) => {
-            let size = j.size;
-            if table.len() < size.count {
-                return JobAnswer::Refused(refusal(7, 0));
-            }
-            let short = pixels.len() < area;
-            if short {
-                return JobAnswer::Refused(refusal(7, 0));
-            }
-            fill_pieces(text, j, table, pixels);
-            JobAnswer::Read(size)
-        }
+    let area = fill_pieces(text, j, &mut table[..no_entries], &mut pixels[..no_bytes])?;
+    let size = j.size;
+    if table.len() < size.count {
+        return Err(refusal(7, 0));
     }
+    let short = pixels.len() < area;
+    if short {
+        return Err(refusal(7, 0));
+    }
+    // the text is the same, and so is the answer
+    fill_pieces(text, j, table, pixels)?;
+    Ok(size)
 }
 
-// Reads a job from its text into a table and a pixel store. A refusal writes nothing.
-pub fn read_job(text: &[u8], table: &mut [PieceEntry], pixels: &mut [u8]) -> JobAnswer
+// Reads a job from its text into a table and a pixel store: the job's numbers, or why the text is refused. A refusal writes nothing.
+pub fn read_job(
+    text: &[u8],
+    table: &mut [PieceEntry],
+    pixels: &mut [u8],
+) -> Result<JobSize, Refusal>
     ensures { Leaves result table.old table.new pixels.old pixels.new (read_job text.now (length table.old) (length pixels.old)) }
 {
-    match job_line(text) {
-        JobLineAnswer::Refused(r) => JobAnswer::Refused(r),
-        JobLineAnswer::Line(j) => read_pieces(text, j, table, pixels),
-    }
+    let j = job_line(text)?;
+    read_pieces(text, j, table, pixels)
 }

@@ -29,14 +29,7 @@ fn entries_in_range(table: &[PieceEntry], count: usize) -> bool
     requires { count ≤ length table.now }
     ensures { result ≡ all_below count (entry_in_range table.now) }
 {
-    let mut i = 0;
-    while i < count {
-        if !entry_in_range(table, i) {
-            return false;
-        }
-        i += 1;
-    }
-    true
+    (0..count).all(|i| entry_in_range(table, i))
 }
 
 // The box of piece i is no longer and no wider than the sheet.
@@ -55,14 +48,7 @@ fn entries_fit(size: JobSize, table: &[PieceEntry]) -> bool
     requires { size.count ≤ length table.now }
     ensures { result ≡ all_below size.count (entry_fits size table.now) }
 {
-    let mut i = 0;
-    while i < size.count {
-        if !entry_fits(size, table, i) {
-            return false;
-        }
-        i += 1;
-    }
-    true
+    (0..size.count).all(|i| entry_fits(size, table, i))
 }
 
 // Where piece i's pixels begin in the store; at n, how many the store has to have.
@@ -70,13 +56,7 @@ pub fn pixel_start(table: &[PieceEntry], i: usize) -> usize
     requires { (i ≤ length table.now) × (i ≤ piece_bound) }
     ensures { result ≡ pixel_start table.now i }
 {
-    let mut start = 0;
-    let mut k = 0;
-    while k < i {
-        start += area_of(table, k);
-        k += 1;
-    }
-    start
+    (0..i).map(|k| area_of(table, k)).sum()
 }
 
 // Sheet, entries and areas are well.
@@ -104,14 +84,7 @@ fn all_bits(bytes: &[u8], count: usize) -> bool
     requires { count ≤ length bytes.now }
     ensures { result ≡ all_bits bytes.now count }
 {
-    let mut k = 0;
-    while k < count {
-        if 1 < bytes[k] {
-            return false;
-        }
-        k += 1;
-    }
-    true
+    bytes[..count].iter().all(|byte| *byte <= 1)
 }
 
 // One of `count` bytes from `first` on, each `step` after the last, is the mark.
@@ -119,16 +92,7 @@ fn some_mark(mark: u8, bytes: &[u8], first: usize, step: usize, count: usize) ->
     requires { (first < 2 ^ 63 + 2 ^ 32) × (step ≤ 512) × (count ≤ side_bound) }
     ensures { result ≡ some_mark mark bytes.now first step count }
 {
-    let mut at = first;
-    let mut k = 0;
-    while k < count {
-        if text_fields::byte_at(bytes, at) == mark {
-            return true;
-        }
-        at += step;
-        k += 1;
-    }
-    false
+    (0..count).any(|k| text_fields::byte_at(bytes, first + k * step) == mark)
 }
 
 // First and last row and column of a box each hold a pixel, which is the byte `mark`.
@@ -171,13 +135,11 @@ fn boxes_tight(table: &[PieceEntry], count: usize, pixels: &[u8]) -> bool
     ensures { result ≡ all_below count (λ i. tight (stored_box table.now pixels.now i)) }
 {
     let mut start = 0;
-    let mut i = 0;
-    while i < count {
+    for i in 0..count {
         if !stored_box_tight(table, i, pixels, start) {
             return false;
         }
         start += area_of(table, i);
-        i += 1;
     }
     true
 }

@@ -11,7 +11,7 @@ ghost use Rattle.job_lines.specs.Lines.{refusal_at, job_line_of, job_answer, sai
 
 use job_limits::{lock_in_range, numbers_in_range, sides_in_range};
 use model::{AREA_BOUND, JobSize, Refusal};
-use text_numbers::{LineForm, line_at};
+use text_numbers::line_at;
 
 // What the job line says: W rows, L columns, n pieces, the gap g; whether its piece lines have a lock; and the position after it.
 #[derive(Clone, Copy)]
@@ -19,13 +19,6 @@ pub struct JobHead {
     pub size: JobSize,
     pub locks: bool,
     pub next: usize,
-}
-
-// The job line, or why it is refused.
-#[derive(Clone, Copy)]
-pub enum JobLineAnswer {
-    Line(JobHead),
-    Refused(Refusal),
 }
 
 // What a piece line says: its number, l columns, w rows, the sum of turns, the lock; and the position after it.
@@ -37,13 +30,6 @@ pub struct PieceHead {
     pub turns: usize,
     pub lock: usize,
     pub next: usize,
-}
-
-// A piece line, or why it is refused.
-#[derive(Clone, Copy)]
-pub enum PieceLineAnswer {
-    Line(PieceHead),
-    Refused(Refusal),
 }
 
 // The refusal that names a line.
@@ -60,14 +46,12 @@ pub fn refusal(number: u8, line: usize) -> Refusal
 
 // The form of a job line that begins with the version's word and has so many numbers: W, L, n and g, which is 0 where it is not there; the
 // version says whether piece lines have a lock.
-fn version_fields(text: &[u8], word: &[u8], count: usize, locks: bool) -> JobLineAnswer
+fn version_fields(text: &[u8], word: &[u8], count: usize, locks: bool) -> Result<JobHead, Refusal>
     requires { (0 < count) × (count ≤ 8) }
     ensures { (result ≡ job_answer (said_by (version_line word.now (field_ends count) locks text.now))) × (head_next result ≤ length text.now) }
 {
-    let line = line_at(text, 0, word, count);
-    let form = line.form;
-    let LineForm::Right(next) = form else {
-        return JobLineAnswer::Refused(refusal(1, 1));
+    let Some(line) = line_at(text, 0, word, count) else {
+        return Err(refusal(1, 1));
     };
     let numbers = line.numbers;
     let size = JobSize {
@@ -76,44 +60,46 @@ fn version_fields(text: &[u8], word: &[u8], count: usize, locks: bool) -> JobLin
         count: numbers[2],
         gap: numbers[3],
     };
-    JobLineAnswer::Line(JobHead { size, locks, next })
+    Ok(JobHead {
+        size,
+        locks,
+        next: line.next,
+    })
 }
 
 // The form of the job line, `job,1,W,L,n`, or else `job,2,W,L,n,g`, or else `job,3,W,L,n,g`.
-fn job_fields(text: &[u8]) -> JobLineAnswer
+fn job_fields(text: &[u8]) -> Result<JobHead, Refusal>
     ensures { (result ≡ job_answer (job_form text.now)) × (head_next result ≤ length text.now) }
 {
-    match version_fields(text, b"job,1,", 3, false) {
-        JobLineAnswer::Line(j) => JobLineAnswer::Line(j),
-        JobLineAnswer::Refused(_) => match version_fields(text, b"job,2,", 4, false) {
-            JobLineAnswer::Line(j) => JobLineAnswer::Line(j),
-            JobLineAnswer::Refused(_) => version_fields(text, b"job,3,", 4, true),
-        },
+    if let Ok(j) = version_fields(text, b"job,1,", 3, false) {
+        return Ok(j);
     }
+    if let Ok(j) = version_fields(text, b"job,2,", 4, false) {
+        return Ok(j);
+    }
+    version_fields(text, b"job,3,", 4, true)
 }
 
 // The ranges of the job line: a number out of range, then the sheet too large.
-fn job_ranges(j: JobHead) -> JobLineAnswer
+fn job_ranges(j: JobHead) -> Result<JobHead, Refusal>
     ensures { (result ≡ job_answer (unless (job_line_causes (job_line_of j)) (job_line_of j))) × (head_count result ≤ piece_bound) }
 {
     let size = j.size;
     let wrong = !numbers_in_range(size);
     if wrong {
-        return JobLineAnswer::Refused(refusal(2, 1));
+        return Err(refusal(2, 1));
     }
     if AREA_BOUND < size.rows * size.columns {
-        return JobLineAnswer::Refused(refusal(3, 1));
+        return Err(refusal(3, 1));
     }
-    JobLineAnswer::Line(j)
+    Ok(j)
 }
 
 // The job line.
-pub fn job_line(text: &[u8]) -> JobLineAnswer
+pub fn job_line(text: &[u8]) -> Result<JobHead, Refusal>
     ensures { (result ≡ job_answer (job_line text.now)) × (head_next result ≤ length text.now) × (head_count result ≤ piece_bound) }
 {
-    let JobLineAnswer::Line(j) = job_fields(text) else {
-        return JobLineAnswer::Refused(refusal(1, 1));
-    };
+    let j = job_fields(text)?;
     job_ranges(j)
 }
 
@@ -128,53 +114,57 @@ fn piece_count(locks: bool) -> usize
 }
 
 // The form of a piece line, `piece,i,l,w,o`, with locks `piece,i,l,w,o,k`; the lock is 0 where it is not there.
-fn piece_fields(text: &[u8], locks: bool, p: usize, line: usize) -> PieceLineAnswer
+fn piece_fields(text: &[u8], locks: bool, p: usize, line: usize) -> Result<PieceHead, Refusal>
     requires { (p ≤ length text.now) × (line < 2 ^ 32) }
     ensures { (result ≡ piece_answer (piece_form text.now locks p line)) × (piece_next result ≤ length text.now) }
 {
     let count = piece_count(locks);
-    let read = line_at(text, p, b"piece,", count);
-    let form = read.form;
-    let LineForm::Right(next) = form else {
-        return PieceLineAnswer::Refused(refusal(1, line));
+    let Some(read) = line_at(text, p, b"piece,", count) else {
+        return Err(refusal(1, line));
     };
     let numbers = read.numbers;
-    PieceLineAnswer::Line(PieceHead {
+    Ok(PieceHead {
         number: numbers[0],
         columns: numbers[1],
         rows: numbers[2],
         turns: numbers[3],
         lock: numbers[4],
-        next,
+        next: read.next,
     })
 }
 
 // The ranges of the line of piece i, with the areas of the boxes before it: a number out of range, the box longer or wider than the
 // sheet, box areas so far too large.
-fn piece_ranges(j: JobHead, i: usize, area: usize, h: PieceHead, line: usize) -> PieceLineAnswer
+fn piece_ranges(
+    j: JobHead,
+    i: usize,
+    area: usize,
+    h: PieceHead,
+    line: usize,
+) -> Result<PieceHead, Refusal>
     requires { (area ≤ area_bound) × (line < 2 ^ 32) }
     ensures { (result ≡ piece_answer (unless (piece_line_causes line (job_line_of j) i area (piece_line_of h)) (piece_line_of h))) × Ranged area result }
 {
     if h.number != i {
-        return PieceLineAnswer::Refused(refusal(2, line));
+        return Err(refusal(2, line));
     }
     if !sides_in_range(h.columns, h.rows, h.turns) {
-        return PieceLineAnswer::Refused(refusal(2, line));
+        return Err(refusal(2, line));
     }
     if !lock_in_range(h.lock) {
-        return PieceLineAnswer::Refused(refusal(2, line));
+        return Err(refusal(2, line));
     }
     if j.size.columns < h.columns {
-        return PieceLineAnswer::Refused(refusal(6, line));
+        return Err(refusal(6, line));
     }
     if j.size.rows < h.rows {
-        return PieceLineAnswer::Refused(refusal(6, line));
+        return Err(refusal(6, line));
     }
     let above = AREA_BOUND < area + h.columns * h.rows;
     if above {
-        return PieceLineAnswer::Refused(refusal(4, line));
+        return Err(refusal(4, line));
     }
-    PieceLineAnswer::Line(h)
+    Ok(h)
 }
 
 // The line of piece i at position p.
@@ -185,12 +175,10 @@ pub fn piece_line(
     area: usize,
     p: usize,
     line: usize,
-) -> PieceLineAnswer
+) -> Result<PieceHead, Refusal>
     requires { (area ≤ area_bound) × (p ≤ length text.now) × (line < 2 ^ 32) }
     ensures { (result ≡ piece_answer (piece_line text.now (job_line_of j) i area p line)) × (piece_next result ≤ length text.now) × Ranged area result }
 {
-    let PieceLineAnswer::Line(h) = piece_fields(text, j.locks, p, line) else {
-        return PieceLineAnswer::Refused(refusal(1, line));
-    };
+    let h = piece_fields(text, j.locks, p, line)?;
     piece_ranges(j, i, area, h, line)
 }

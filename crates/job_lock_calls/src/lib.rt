@@ -7,7 +7,7 @@ ghost use Rattle.model.specs.Lent.{lent_by};
 ghost use Rattle.model.specs.Calls.{set_lock_call, locked_after};
 ghost use Rattle.call_laws.specs.Locks.{lock_call, LocksClaims};
 
-use model::{DoneAnswer, JobSize, PieceEntry, refused};
+use model::{JobSize, PieceEntry, Refusal, refused};
 use piece_table::lock_piece;
 
 // The planner's station, which may not set a lock.
@@ -24,7 +24,7 @@ pub fn set_lock(
     pixels: &[u8],
     piece: usize,
     station: usize,
-) -> DoneAnswer
+) -> Result<(), Refusal>
     ensures answer { result ≡ done_answer (set_lock_call (lent_by size table.old pixels.now) piece station) }
     ensures memory { table.new ≡ locked_after table.old (set_lock_call (lent_by size table.old pixels.now) piece station) }
     ensures locks { LocksClaims (lent_by size table.old pixels.now) (lock_call piece station ∷ []) (lent_by size table.new pixels.now) }
@@ -45,5 +45,5 @@ pub fn set_lock(
         return refused(16);
     }
     lock_piece(table, piece);
-    DoneAnswer::Done
+    Ok(())
 }

@@ -11,7 +11,7 @@ use Rattle.text_laws.proofs.Outcomes.{wrong_got, refused_given, Onward, got_onwa
 use Rattle.text_fields.proofs.Steps.{byte_inside, after_not, after_word, one_not, one_stands}
 use Rattle.job_lines.specs.Lines.{refusal_at}
 use Rattle.job_rows.specs.Stores.{mark_bit, MarksStored, rows_answer, RowsStored}
-use Rattle.job_rows.specs.declared.RowsAnswer.TheVariants as rows
+use Rattle.std.specs.Prelude.{Ok, Err}
 use Rattle.model.specs.declared.Refusal.{Refusal}
 
 -- ── a mark ──
@@ -291,16 +291,16 @@ rows_end text l p line at store = refl
 -- what stands in the store after all
 pub rows_given : (at : ℕ) (before last : List ℕ) (next : ℕ) (x : Outcome Rows)
     → and_then x (into at before) ≡ stored last next
-    → (rows.Next next ≡ rows_answer x) × RowsStored at before last x
+    → (Ok next ≡ rows_answer x) × RowsStored at before last x
 rows_given at before last next (refused s) e = absurd (refused_given e)
 rows_given at before last next (given r) e =
     let y : ◌≡◌ {A = Rows} (record { pixels = sets before at r.pixels; next = r.next }) (record { pixels = last; next = next }) = cc in
-    (ap (λ (k : Rows). rows.Next k.next) (sym y), ap (λ (k : Rows). k.pixels) (sym y))
+    (ap (λ (k : Rows). Ok k.next) (sym y), ap (λ (k : Rows). k.pixels) (sym y))
 
 pub rows_refused : (at : ℕ) (before last : List ℕ) (s : Refusal) (x : Outcome Rows)
     → and_then x (into at before) ≡ refused s
-    → (rows.Refused s ≡ rows_answer x) × RowsStored at before last x
-rows_refused at before last s (refused t) e = let z : t ≡ s = cc in (ap rows.Refused (sym z), tt)
+    → (Err s ≡ rows_answer x) × RowsStored at before last x
+rows_refused at before last s (refused t) e = (cc, tt)
 rows_refused at before last s (given r) e = absurd (refused_given (sym e))
 
 -- row lines that are read: their pixels stand in the text row by row, l + 5 bytes apart

@@ -1,11 +1,10 @@
 -- What a reading leaves in the lent table and pixel store, as long as it goes well. Assumes nothing.
-use Rattle.std.specs.Prelude.{Bool, true, false, List, ◌≡◌, ℕ, eqb}
+use Rattle.std.specs.Prelude.{Result, Ok, Err, Bool, true, false, List, ◌≡◌, ℕ, eqb}
 use Rattle.std.proofs.lemmas.List.Edits.{sets}
 use Rattle.model.specs.Refusal.{Outcome, refused, given}
 use Rattle.model.specs.Text.{Reading, wrong, got}
 use Rattle.model.specs.JobText.{pixel_mark, empty_mark, Rows}
-use Rattle.job_rows.specs.declared.RowsAnswer.{RowsAnswer}
-use Rattle.job_rows.specs.declared.RowsAnswer.TheVariants as rows
+use Rattle.model.specs.declared.Refusal.{Refusal}
 
 -- the pixel byte of a mark, `#` pixel, `.` none; 2 for a byte that is no mark
 abbrev pub mark_bit : ℕ → ℕ
@@ -17,9 +16,9 @@ MarksStored at before after r wrong = r ≡ false
 MarksStored at before after r (got ms q) = (r ≡ true) × (after ≡ sets before at ms)
 
 -- the position after row lines, or their refusal
-abbrev pub rows_answer : Outcome Rows → RowsAnswer
-rows_answer (refused r) = rows.Refused r
-rows_answer (given x) = rows.Next x.next
+abbrev pub rows_answer : Outcome Rows → Result ℕ Refusal
+rows_answer (refused r) = Err r
+rows_answer (given x) = Ok x.next
 
 -- rows that are read are stored from `at` on
 abbrev pub RowsStored : ℕ → List ℕ → List ℕ → Outcome Rows → Type 0

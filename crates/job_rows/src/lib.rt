@@ -11,13 +11,6 @@ use job_lines::refusal;
 use model::Refusal;
 use text_fields::{byte_at, put_byte, word_at};
 
-// The position after row lines, or why they are refused.
-#[derive(Clone, Copy)]
-pub enum RowsAnswer {
-    Next(usize),
-    Refused(Refusal),
-}
-
 // The pixel byte of a mark; 2 where the byte is none.
 fn mark_bit(b: u8) -> u8
     ensures { result ≡ mark_bit b }
@@ -36,14 +29,12 @@ fn fill_marks(text: &[u8], p: usize, count: usize, pixels: &mut [u8], at: usize)
     requires { (p ≤ length text.now + 4) × (count ≤ side_bound) × (at ≤ 2 ^ 32) }
     ensures { MarksStored at pixels.old pixels.new result (marks_at text.now count p) }
 {
-    let mut k = 0;
-    while k < count {
+    for k in 0..count {
         let bit = mark_bit(byte_at(text, p + k));
         if 1 < bit {
             return false;
         }
         put_byte(pixels, at + k, bit);
-        k += 1;
     }
     true
 }
@@ -62,7 +53,7 @@ fn fill_row(text: &[u8], p: usize, l: usize, pixels: &mut [u8], at: usize) -> bo
     byte_at(text, p + 4 + l) == b'\n'
 }
 
-// Stores w row lines from position p on, the first of them on the given line.
+// Stores w row lines from position p on, the first of them on the given line: the position after them, or why they are refused.
 pub fn fill_rows(
     text: &[u8],
     p: usize,
@@ -71,20 +62,17 @@ pub fn fill_rows(
     line: usize,
     pixels: &mut [u8],
     at: usize,
-) -> RowsAnswer
+) -> Result<usize, Refusal>
     requires { (p ≤ length text.now) × (l ≤ side_bound) × (w ≤ side_bound) × (line ≤ 2 ^ 31) × (at ≤ 2 ^ 31) }
     ensures { (result ≡ rows_answer (rows_at text.now l w p line)) × RowsStored at pixels.old pixels.new (rows_at text.now l w p line) }
 {
     let mut next = p;
-    let mut left = w;
-    while 0 < left {
-        // the first row line is y = 0
-        let first = at + (w - left) * l;
+    for y in 0..w {
+        let first = at + y * l;
         if !fill_row(text, next, l, pixels, first) {
-            return RowsAnswer::Refused(refusal(1, line + (w - left)));
+            return Err(refusal(1, line + y));
         }
         next += l + 5;
-        left -= 1;
     }
-    RowsAnswer::Next(next)
+    Ok(next)
 }

@@ -18,9 +18,7 @@ pub fn draw_all(
     requires fact_2 { Kept direction table.now pixels.now layout.now store.old spans.old }
     ensures { Drawn direction table.now pixels.now layout.now store.new spans.new }
 {
-    let mut i = 0;
-    while i < layout.len() {
+    for i in 0..layout.len() {
         draw(table, pixels, layout, i, direction, store, spans);
-        i += 1;
     }
 }

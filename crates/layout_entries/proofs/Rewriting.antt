@@ -1,5 +1,5 @@
 -- A layout buffer that is written again. Assumes nothing.
-use Rattle.list_laws.proofs.Kit.{◌∙◌, ◌≡◌, ap, refl, sym, ◌⊎◌, inl, inr, List, [], ◌+◌, ◌<◌, ℕ}
+use Rattle.list_laws.proofs.Kit.{◌∙◌, ◌≡◌, ap, sym, ◌⊎◌, inl, inr, List, [], ◌+◌, ◌<◌, ℕ}
 use Rattle.list_laws.proofs.Kit.{eq-or-lt_of_le, arith, get_or, length, length-map, length-set}
 use Rattle.list_laws.proofs.Kit.{set, ext_get_or, get_or-set_other, get_or-set_same, set-get_or}
 use Rattle.model.specs.Layout.{Layout, place_of, origin}
@@ -11,10 +11,6 @@ pub record Rewritten (start now : List (List ℕ)) (i : ℕ) : Type 0 where
   pub same : length now ≡ length start
   pub reads : layout_of now ≡ layout_of start
   pub done : (k : ℕ) → k < i → get_or now k [] ≡ entry_of (place_of (layout_of start) k)
-
--- before the first
-pub rewritten_begin : (start : List (List ℕ)) → Rewritten start start 0
-rewritten_begin start = record { same = refl; reads = refl; done = λ k l. absurd (omega arith) }
 
 -- one more
 pub rewritten_step : (start now : List (List ℕ)) (i : ℕ) → i < length now → Rewritten start now i

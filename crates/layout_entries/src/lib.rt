@@ -11,9 +11,7 @@ use model::PlaceEntry;
 pub fn write_entries(layout: &mut [PlaceEntry])
     ensures { layout.new ≡ entries_of (layout_of layout.old) }
 {
-    let mut i = 0;
-    while i < layout.len() {
+    for i in 0..layout.len() {
         layout[i] = layout_places::entry_of(layout_places::place_at(layout, i));
-        i += 1;
     }
 }

@@ -12,9 +12,8 @@ ghost use Rattle.call_laws.specs.Lengths.{UsedClaims};
 
 use causes::layout_causes;
 use layout_places::place_at;
-use model::{DoneAnswer, JobSize, NumberAnswer, PieceEntry, PlaceEntry};
+use model::{JobSize, PieceEntry, PlaceEntry, Refusal};
 use piece_pixels::turned_sides;
-use whole_numbers::{larger, smaller};
 
 // The left end of piece i: its corner x.
 fn left_end(layout: &[PlaceEntry], i: usize) -> usize
@@ -40,15 +39,13 @@ pub fn length_between_ends(size: JobSize, table: &[PieceEntry], layout: &[PlaceE
     requires { (0 < size.count) × (size.count ≤ length table.now) × (length layout.now ≡ size.count) }
     ensures { (pixels : List ℕ) → result ≡ used_length (job_of (lent_by size table.now pixels)) (layout_of layout.now) }
 {
-    let mut last = 0;
+    let mut last: usize = 0;
     let mut first = left_end(layout, 0);
-    let mut i = 0;
-    while i < size.count {
+    for i in 0..size.count {
         let right = right_end(table, layout, i);
         let left = left_end(layout, i);
-        last = larger(last, right);
-        first = smaller(first, left);
-        i += 1;
+        last = last.max(right);
+        first = first.min(left);
     }
     last - first
 }
@@ -59,12 +56,10 @@ pub fn used_length(
     table: &[PieceEntry],
     pixels: &[u8],
     layout: &[PlaceEntry],
-) -> NumberAnswer
+) -> Result<u64, Refusal>
     ensures answer { result ≡ number_answer (used_length_call (lent_by size table.now pixels.now) layout.now) }
-    ensures length { (n : ℕ) → result ≡ NumberAnswer.Number n → UsedClaims (job_of (lent_by size table.now pixels.now)) (layout_of layout.now) n }
+    ensures length { (n : ℕ) → result ≡ Ok n → UsedClaims (job_of (lent_by size table.now pixels.now)) (layout_of layout.now) n }
 {
-    match layout_causes(size, table, pixels, layout) {
-        DoneAnswer::Refused(refusal) => NumberAnswer::Refused(refusal),
-        DoneAnswer::Done => NumberAnswer::Number(length_between_ends(size, table, layout) as u64),
-    }
+    layout_causes(size, table, pixels, layout)?;
+    Ok(length_between_ends(size, table, layout) as u64)
 }

@@ -18,23 +18,16 @@ use model::{Column, JobSize, PieceEntry, PlaceEntry, Placement, Row, Turn};
 use piece_pixels::turned_sides;
 use piece_table::turns_of;
 
-// The turn that degrees are, if there is one.
-#[derive(Clone, Copy)]
-pub enum TurnAnswer {
-    Known(Turn),
-    Unknown,
-}
-
 // The turn of so many degrees, if there is one.
-pub fn turn_of(degrees: u16) -> TurnAnswer
+pub fn turn_of(degrees: u16) -> Option<Turn>
     ensures { result ≡ turn_answer (turn_of_degrees degrees) }
 {
     match degrees {
-        0 => TurnAnswer::Known(Turn::Zero),
-        90 => TurnAnswer::Known(Turn::Quarter),
-        180 => TurnAnswer::Known(Turn::Half),
-        270 => TurnAnswer::Known(Turn::ThreeQuarters),
-        _ => TurnAnswer::Unknown,
+        0 => Some(Turn::Zero),
+        90 => Some(Turn::Quarter),
+        180 => Some(Turn::Half),
+        270 => Some(Turn::ThreeQuarters),
+        _ => None,
     }
 }
 
@@ -42,10 +35,7 @@ pub fn turn_of(degrees: u16) -> TurnAnswer
 pub fn turn_or_zero(degrees: u16) -> Turn
     ensures { result ≡ turn_of degrees }
 {
-    let TurnAnswer::Known(turn) = turn_of(degrees) else {
-        return Turn::Zero;
-    };
-    turn
+    turn_of(degrees).unwrap_or(Turn::Zero)
 }
 
 // A turn in degrees, as buffers and texts write it.
@@ -112,11 +102,7 @@ pub fn copy(from: &[PlaceEntry], to: &mut [PlaceEntry])
     requires { length to.old ≡ length from.now }
     ensures { to.new ≡ from.now }
 {
-    let mut k = 0;
-    while k < from.len() {
-        to[k] = from[k];
-        k += 1;
-    }
+    to.copy_from_slice(from);
 }
 
 // The box of piece i, turned, with its corner at column x and row y, lies in the sheet.
@@ -153,10 +139,7 @@ pub fn allowed_degrees(table: &[PieceEntry], i: usize, degrees: u16) -> bool
     requires { i < length table.now }
     ensures { (size : JobSize) (pixels : List ℕ) → result ≡ allowed_degrees (job_of (lent_by size table.now pixels)) i degrees }
 {
-    let TurnAnswer::Known(turn) = turn_of(degrees) else {
-        return false;
-    };
-    allowed(table, i, turn)
+    turn_of(degrees).is_some_and(|turn| allowed(table, i, turn))
 }
 
 // There is such a piece, and the turn is allowed to it. The table is asked only where it has the entry, so that a call may ask this before

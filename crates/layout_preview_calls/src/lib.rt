@@ -18,18 +18,9 @@ ghost use Rattle.layout_preview_calls.specs.Movable.{Movable};
 use causes::placing_causes;
 use layout_length_calls::length_between_ends;
 use layout_places::{copy, entry_of, inside};
-use model::{
-    DoneAnswer, Figures, JobSize, PIECE_BOUND, PieceEntry, PlaceEntry, Placement, Refusal, refused,
-};
+use model::{Figures, JobSize, PIECE_BOUND, PieceEntry, PlaceEntry, Placement, Refusal, refused};
 use search_sums::total;
 use search_table::penalties_of;
-
-// The figures of a layout with one piece placed anew, or why they are refused.
-#[derive(Clone, Copy)]
-pub enum PreviewAnswer {
-    Shown(Figures),
-    Refused(Refusal),
-}
 
 // Makes a copy of a layout with one piece placed anew.
 fn put_moved(layout: &[PlaceEntry], piece: usize, place: Placement, moved: &mut [PlaceEntry])
@@ -103,19 +94,15 @@ fn preview_causes(
     weights: &[u32],
     piece: usize,
     place: Placement,
-) -> DoneAnswer
+) -> Result<(), Refusal>
     ensures { result ≡ first_cause (preview_causes (lent_by size table.now pixels.now) layout.now weights.now piece place) }
 {
     let turn = place.turn;
-    match placing_causes(size, table, pixels, layout, weights, piece, turn) {
-        DoneAnswer::Refused(refusal) => DoneAnswer::Refused(refusal),
-        DoneAnswer::Done => {
-            if !inside(size, table, piece, place) {
-                return refused(10);
-            }
-            DoneAnswer::Done
-        }
+    placing_causes(size, table, pixels, layout, weights, piece, turn)?;
+    if !inside(size, table, piece, place) {
+        return refused(10);
     }
+    Ok(())
 }
 
 // The weighted sum and the used length of the layout with the piece placed as given, or their refusal.
@@ -127,14 +114,10 @@ pub fn preview(
     weights: &[u32],
     piece: usize,
     place: Placement,
-) -> PreviewAnswer
+) -> Result<Figures, Refusal>
     ensures answer { result ≡ preview_answer (preview_call (lent_by size table.now pixels.now) layout.now weights.now piece place) }
-    ensures figures { (f : Figures) → result ≡ PreviewAnswer.Shown f → PreviewClaims (lent_by size table.now pixels.now) layout.now weights.now piece place f }
+    ensures figures { (f : Figures) → result ≡ Ok f → PreviewClaims (lent_by size table.now pixels.now) layout.now weights.now piece place f }
 {
-    match preview_causes(size, table, pixels, layout, weights, piece, place) {
-        DoneAnswer::Refused(refusal) => PreviewAnswer::Refused(refusal),
-        DoneAnswer::Done => PreviewAnswer::Shown(figures_moved(
-            size, table, pixels, layout, weights, piece, place,
-        )),
-    }
+    preview_causes(size, table, pixels, layout, weights, piece, place)?;
+    Ok(figures_moved(size, table, pixels, layout, weights, piece, place))
 }

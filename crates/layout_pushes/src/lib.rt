@@ -143,8 +143,7 @@ fn push_each(
     ensures layout { layout.new ≡ entries_of (pass (job_of (lent_by size table.now pixels.now)) (layout_of layout.old)).layout }
 {
     let mut slid = 0;
-    let mut i = 0;
-    while i < size.count {
+    for i in 0..size.count {
         slid += push_piece(
             size,
             table,
@@ -156,7 +155,6 @@ fn push_each(
             columns,
             column_spans,
         );
-        i += 1;
     }
     slid
 }

@@ -1,5 +1,5 @@
 -- The causes of a line, as the reader meets them one after the other. Assumes nothing.
-use Rattle.list_laws.proofs.Kit.{◌∙◌, ◌≡◌, ap₂, refl, sym, Bool, ◌&&◌, false, true, Option, none, some, List, [], ◌∷◌, ◌+◌, ◌<◌, ◌≤◌, min, ℕ, arith, eqb, leb}
+use Rattle.list_laws.proofs.Kit.{◌∙◌, ◌≡◌, ap, ap₂, refl, sym, Bool, ◌&&◌, false, true, Option, none, some, List, [], ◌∷◌, ◌+◌, ◌<◌, ◌≤◌, min, ℕ, arith, eqb, leb}
 use Rattle.list_laws.proofs.Kit.{leb-false, leb-true, lt-leb, ne_eqb}
 use Rattle.model.specs.Layout.{Job, allowed, inside, turned_piece}
 use Rattle.model.specs.Refusal.{Outcome, refused, given, Cause, unless, refusal_of, wrong_form, out_of_range, no_such_piece, outside_sheet}
@@ -13,8 +13,8 @@ use Rattle.model.specs.declared.Turn.{Turn}
 use Rattle.list_laws.proofs.Tests.{and_left, and_right}
 use Rattle.layout_places.specs.Boxes.{place_at}
 use Rattle.layout_read_calls.specs.Readings.{turn_on_line, place_on_line, place_answer, line_answer}
-use Rattle.layout_read_calls.specs.declared.LineAnswer.{LineAnswer}
-use Rattle.layout_read_calls.specs.declared.PlaceAnswer.{PlaceAnswer}
+use Rattle.layout_read_calls.specs.declared.PlacedLine.{PlacedLine}
+use Rattle.std.specs.Prelude.{Ok, Err}
 
 -- ── turns ──
 
@@ -141,19 +141,19 @@ line_placed j text i p line ks next e =
     rw (e, formed) (unless_made (λ (q : Placement). record { place = q; next = next }) (placement_causes line j i ks (as_placement_line ks 0).place) _)
 
 -- what the answers say of the outcomes
-pub place_refused : (o : Outcome Placement) (r : Refusal) → PlaceAnswer.Refused r ≡ place_answer o → o ≡ refused r
+pub place_refused : (o : Outcome Placement) (r : Refusal) → Err r ≡ place_answer o → o ≡ refused r
 place_refused (refused s) r e = cc
-place_refused (given p) r e = let z : ◌≡◌ {A = ℕ} 0 1 = cc in absurd (omega arith)
+place_refused (given p) r e = cc
 
-pub place_placed : (o : Outcome Placement) (q : Placement) → PlaceAnswer.Placed q ≡ place_answer o → o ≡ given q
-place_placed (refused s) q e = let z : ◌≡◌ {A = ℕ} 0 1 = cc in absurd (omega arith)
+pub place_placed : (o : Outcome Placement) (q : Placement) → Ok q ≡ place_answer o → o ≡ given q
+place_placed (refused s) q e = cc
 place_placed (given p) q e = cc
 
-pub line_refused : (o : Outcome PlacementLine) (r : Refusal) → LineAnswer.Refused r ≡ line_answer o → o ≡ refused r
+pub line_refused : (o : Outcome PlacementLine) (r : Refusal) → Err r ≡ line_answer o → o ≡ refused r
 line_refused (refused s) r e = cc
-line_refused (given p) r e = let z : ◌≡◌ {A = ℕ} 0 1 = cc in absurd (omega arith)
+line_refused (given p) r e = cc
 
-pub line_read_lem : (o : Outcome PlacementLine) (q : Placement) (next : ℕ) → LineAnswer.Read q next ≡ line_answer o → o ≡ given (record { place = q; next = next })
-line_read_lem (refused s) q next e = let z : ◌≡◌ {A = ℕ} 0 1 = cc in absurd (omega arith)
-line_read_lem (given h) q next e =
-    let a : h.place ≡ q = cc in let b : h.next ≡ next = cc in λ i. given (record { place = a i; next = b i })
+pub line_read_lem : (o : Outcome PlacementLine) (h : PlacedLine) → Ok h ≡ line_answer o → o ≡ given (record { place = h.place; next = h.next })
+line_read_lem (refused s) h e = cc
+line_read_lem (given k) h e =
+    let a : record { place = k.place; next = k.next } ≡ h = cc in ap (λ (x : PlacedLine). given (record { place = x.place; next = x.next })) a

@@ -19,11 +19,6 @@ given_same e = cc
 abbrev behind : Layout → Outcome Layout → Outcome Layout
 behind front o = and_then o (λ v. given (front ++ v))
 
--- nothing in front
-behind_none : (o : Outcome Layout) → o ≡ behind [] o
-behind_none (refused r) = refl
-behind_none (given v) = refl
-
 -- one placement more
 behind_more : (front : Layout) (q : Placement) (o : Outcome Layout)
     → behind front (and_then o (λ v. given (q ∷ v))) ≡ behind (front ++ (q ∷ [])) o
@@ -45,10 +40,6 @@ pub record ReadProgress (job : List ℕ → Job) (count : ℕ) (text : List ℕ)
   pub goes : (pixels : List ℕ) → placements_at (job pixels) text count 0 p 2 ≡ behind front (placements_at (job pixels) text (count - i) i at line)
 
 module _ (job : List ℕ → Job) (count : ℕ) (text : List ℕ) (p : ℕ) (before : List (List ℕ)) where
-  -- before the first line
-  pub progress_begin : ReadProgress job count text p before before p 2 0
-  progress_begin = record { front = []; counted = refl; memory = refl; goes = λ pixels. let e : count - 0 ≡ count = omega arith in rw e (behind_none _) }
-
   module _ (after : List (List ℕ)) (at line i : ℕ) (h : ReadProgress job count text p before after at line i) where
     -- a line that is read
     pub progress_more : i < count → (q : Placement) (next : ℕ)

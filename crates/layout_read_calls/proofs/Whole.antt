@@ -1,6 +1,7 @@
 -- What reading a layout comes to, by its parts: the job's check, the layout line, the pieces' lines, the buffer's length. Assumes
 -- nothing.
-use Rattle.list_laws.proofs.Kit.{◌≡◌, ap, refl, false, true, List, [], ◌∷◌, suc, zero, ℕ, arith, length, eq-eqb, ne_eqb}
+use Rattle.std.specs.Prelude.{Ok, Err}
+use Rattle.list_laws.proofs.Kit.{◌≡◌, ap, refl, false, true, List, [], ◌∷◌, suc, zero, ℕ, length, eq-eqb, ne_eqb}
 use Rattle.model.specs.Layout.{Job, Layout}
 use Rattle.model.specs.Refusal.{Outcome, refused, given, unless, plain_refusal, wrong_length, not_ours}
 use Rattle.model.specs.Lent.{Lent, job_of, lent_well}
@@ -11,31 +12,29 @@ use Rattle.text_laws.specs.Outcomes.{Unless}
 use Rattle.text_laws.proofs.Outcomes.{given_unless, given_before}
 use Rattle.model.specs.Answers.{done_answer}
 use Rattle.layout_read_calls.specs.Readings.{layout_from, position_answer}
-use Rattle.model.specs.declared.DoneAnswer.{DoneAnswer}
-use Rattle.layout_read_calls.specs.declared.PositionAnswer.{PositionAnswer}
 use Rattle.layout_read_calls.proofs.Progress.{given_same}
 
 -- ── what the answers say of the outcomes ──
 
-pub layout_refused_lem : (o : Outcome Layout) (r : Refusal) → DoneAnswer.Refused r ≡ done_answer o → o ≡ refused r
+pub layout_refused_lem : (o : Outcome Layout) (r : Refusal) → Err r ≡ done_answer o → o ≡ refused r
 layout_refused_lem (refused s) r e = cc
-layout_refused_lem (given v) r e = let z : ◌≡◌ {A = ℕ} 0 1 = cc in absurd (omega arith)
+layout_refused_lem (given v) r e = cc
 
 -- a layout that is given
 pub record ReadGiven (o : Outcome Layout) : Type 0 where
   pub layout : Layout
   pub gives : o ≡ given layout
 
-pub layout_given : (o : Outcome Layout) → DoneAnswer.Done ≡ done_answer o → ReadGiven o
-layout_given (refused s) e = let z : ◌≡◌ {A = ℕ} 0 1 = cc in absurd (omega arith)
+pub layout_given : (o : Outcome Layout) → Ok tt ≡ done_answer o → ReadGiven o
+layout_given (refused s) e = cc
 layout_given (given v) e = record { layout = v; gives = refl }
 
-pub position_refused : (o : Outcome ℕ) (r : Refusal) → PositionAnswer.Refused r ≡ position_answer o → o ≡ refused r
+pub position_refused : (o : Outcome ℕ) (r : Refusal) → Err r ≡ position_answer o → o ≡ refused r
 position_refused (refused s) r e = cc
-position_refused (given p) r e = let z : ◌≡◌ {A = ℕ} 0 1 = cc in absurd (omega arith)
+position_refused (given p) r e = cc
 
-pub position_given : (o : Outcome ℕ) (p : ℕ) → PositionAnswer.After p ≡ position_answer o → o ≡ given p
-position_given (refused s) p e = let z : ◌≡◌ {A = ℕ} 0 1 = cc in absurd (omega arith)
+pub position_given : (o : Outcome ℕ) (p : ℕ) → Ok p ≡ position_answer o → o ≡ given p
+position_given (refused s) p e = cc
 position_given (given q) p e = cc
 
 -- ── the buffer ──

@@ -1,5 +1,5 @@
 -- What the reader's functions answer, by the model's readings and outcomes. Assumes nothing.
-use Rattle.std.specs.Prelude.{true, false, not, List, [], ◌∷◌, ℕ, eqb}
+use Rattle.std.specs.Prelude.{Result, Ok, Err, true, false, not, List, [], ◌∷◌, ℕ, eqb}
 use Rattle.std.proofs.Math.Option.{Option, none}
 use Rattle.model.specs.Layout.{Job, Layout}
 use Rattle.model.specs.Refusal.{Outcome, refused, given, cause, unless, wrong_length}
@@ -8,10 +8,9 @@ use Rattle.model.specs.Text.{and_then}
 use Rattle.model.specs.LayoutText.{PlacementLine, as_placement_line, placement_causes, placements_at}
 use Rattle.model.specs.declared.Turn.{Turn}
 use Rattle.model.specs.declared.Placement.{Placement}
+use Rattle.model.specs.declared.Refusal.{Refusal}
 use Rattle.layout_read_calls.specs.declared.PlacementFields.{PlacementFields}
-use Rattle.layout_read_calls.specs.declared.PositionAnswer.{PositionAnswer}
-use Rattle.layout_read_calls.specs.declared.PlaceAnswer.{PlaceAnswer}
-use Rattle.layout_read_calls.specs.declared.LineAnswer.{LineAnswer}
+use Rattle.layout_read_calls.specs.declared.PlacedLine.{PlacedLine}
 
 -- the numbers of a piece's line
 abbrev pub numbers_of : PlacementFields → List ℕ
@@ -31,26 +30,26 @@ layout_from j text p room =
     and_then (placements_at j text j.size.count 0 p 2) (λ v. unless (cause wrong_length (not (eqb room j.size.count)) ∷ []) v)
 
 -- the position after the layout line
-abbrev pub position_answer : Outcome ℕ → PositionAnswer
-position_answer (refused r) = PositionAnswer.Refused r
-position_answer (given p) = PositionAnswer.After p
+abbrev pub position_answer : Outcome ℕ → Result ℕ Refusal
+position_answer (refused r) = Err r
+position_answer (given p) = Ok p
 
 -- that position; 0 where the line is refused
-abbrev pub position_in : PositionAnswer → ℕ
-position_in (PositionAnswer.Refused r) = 0
-position_in (PositionAnswer.After p) = p
+abbrev pub position_in : Result ℕ Refusal → ℕ
+position_in (Err r) = 0
+position_in (Ok p) = p
 
 -- a piece's placement
-abbrev pub place_answer : Outcome Placement → PlaceAnswer
-place_answer (refused r) = PlaceAnswer.Refused r
-place_answer (given p) = PlaceAnswer.Placed p
+abbrev pub place_answer : Outcome Placement → Result Placement Refusal
+place_answer (refused r) = Err r
+place_answer (given p) = Ok p
 
 -- the placement on a piece's line and the position after it
-abbrev pub line_answer : Outcome PlacementLine → LineAnswer
-line_answer (refused r) = LineAnswer.Refused r
-line_answer (given h) = LineAnswer.Read h.place h.next
+abbrev pub line_answer : Outcome PlacementLine → Result PlacedLine Refusal
+line_answer (refused r) = Err r
+line_answer (given h) = Ok (record { place = h.place; next = h.next })
 
 -- that position; 0 where the line is refused
-abbrev pub line_next : LineAnswer → ℕ
-line_next (LineAnswer.Refused r) = 0
-line_next (LineAnswer.Read p next) = next
+abbrev pub line_next : Result PlacedLine Refusal → ℕ
+line_next (Err r) = 0
+line_next (Ok h) = h.next

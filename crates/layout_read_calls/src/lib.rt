@@ -16,11 +16,8 @@ ghost use Rattle.layout_places.specs.Answers.{turn_answer};
 ghost use Rattle.layout_places.specs.Fitting.{Fitting};
 ghost use Rattle.layout_read_calls.specs.Readings.{numbers_of, turn_on_line, place_on_line, layout_from, position_answer, position_in, place_answer, line_answer, line_next};
 
-use layout_places::TurnAnswer;
-use model::{
-    Column, DoneAnswer, JobSize, PieceEntry, PlaceEntry, Placement, Refusal, Row, refused,
-};
-use text_numbers::{LineForm, line_at};
+use model::{Column, JobSize, PieceEntry, PlaceEntry, Placement, Refusal, Row, Turn, refused};
+use text_numbers::line_at;
 
 // The numbers of a piece's line.
 #[derive(Clone, Copy)]
@@ -31,25 +28,11 @@ struct PlacementFields {
     y: usize,
 }
 
-// The position after the layout line, or why it is refused.
+// A piece's placement and the position after its line.
 #[derive(Clone, Copy)]
-enum PositionAnswer {
-    After(usize),
-    Refused(Refusal),
-}
-
-// A piece's placement, or why it is refused.
-#[derive(Clone, Copy)]
-enum PlaceAnswer {
-    Placed(Placement),
-    Refused(Refusal),
-}
-
-// The placement on a piece's line and the position after it, or why it is refused.
-#[derive(Clone, Copy)]
-enum LineAnswer {
-    Read(Placement, usize),
-    Refused(Refusal),
+struct PlacedLine {
+    place: Placement,
+    next: usize,
 }
 
 // A refusal that names a line.
@@ -77,31 +60,29 @@ fn same_sheet(size: JobSize, rows: usize, columns: usize, count: usize) -> bool
 }
 
 // The layout line, `layout,1,W,L,n`: the position after it.
-fn layout_line(size: JobSize, text: &[u8]) -> PositionAnswer
+fn layout_line(size: JobSize, text: &[u8]) -> Result<usize, Refusal>
     ensures { ((table : List (List ℕ)) (pixels : List ℕ) → result ≡ position_answer (layout_line (job_of (lent_by size table pixels)) text.now)) × (position_in result ≤ length text.now) }
 {
-    let line = line_at(text, 0, b"layout,1,", 3);
-    let form = line.form;
-    let LineForm::Right(next) = form else {
-        return PositionAnswer::Refused(refused_in(1, 1));
+    let Some(line) = line_at(text, 0, b"layout,1,", 3) else {
+        return Err(refused_in(1, 1));
     };
     let numbers = line.numbers;
     if !same_sheet(size, numbers[0], numbers[1], numbers[2]) {
-        return PositionAnswer::Refused(refused_in(1, 2));
+        return Err(refused_in(1, 2));
     }
-    PositionAnswer::After(next)
+    Ok(line.next)
 }
 
 // The turn on the line of piece i, if the line names that piece and the degrees are those of a turn.
-fn turn_on_line(i: usize, number: usize, degrees: usize) -> TurnAnswer
+fn turn_on_line(i: usize, number: usize, degrees: usize) -> Option<Turn>
     ensures { result ≡ turn_answer (turn_on_line i number degrees) }
 {
     if number != i {
-        return TurnAnswer::Unknown;
+        return None;
     }
     let above = 270 < degrees;
     if above {
-        return TurnAnswer::Unknown;
+        return None;
     }
     layout_places::turn_of(degrees as u16)
 }
@@ -123,22 +104,22 @@ fn placement_of(
     i: usize,
     line: u32,
     fields: PlacementFields,
-) -> PlaceAnswer
+) -> Result<Placement, Refusal>
     requires { (i < length table.now) × (size.rows ≤ row_bound) × (size.columns ≤ column_bound) }
     ensures { (pixels : List ℕ) → result ≡ place_answer (place_on_line (job_of (lent_by size table.now pixels)) i line (numbers_of fields)) }
 {
-    let TurnAnswer::Known(turn) = turn_on_line(i, fields.number, fields.degrees) else {
-        return PlaceAnswer::Refused(refused_in(line, 2));
+    let Some(turn) = turn_on_line(i, fields.number, fields.degrees) else {
+        return Err(refused_in(line, 2));
     };
     if !layout_places::allowed(table, i, turn) {
-        return PlaceAnswer::Refused(refused_in(line, 9));
+        return Err(refused_in(line, 9));
     }
     let x = Column(clipped(fields.x));
     let y = Row(clipped(fields.y));
     if !layout_places::inside_at(size, table, i, turn, x, y) {
-        return PlaceAnswer::Refused(refused_in(line, 10));
+        return Err(refused_in(line, 10));
     }
-    PlaceAnswer::Placed(Placement { turn, x, y })
+    Ok(Placement { turn, x, y })
 }
 
 // The line of piece i at position p, `at,i,turn,x,y`.
@@ -149,14 +130,12 @@ fn placement_line(
     i: usize,
     p: usize,
     line: u32,
-) -> LineAnswer
+) -> Result<PlacedLine, Refusal>
     requires { (i < length table.now) × (size.rows ≤ row_bound) × (size.columns ≤ column_bound) × (p ≤ length text.now) }
     ensures { ((pixels : List ℕ) → result ≡ line_answer (placement_line (job_of (lent_by size table.now pixels)) text.now i p line)) × (line_next result ≤ length text.now) }
 {
-    let read = line_at(text, p, b"at,", 4);
-    let form = read.form;
-    let LineForm::Right(next) = form else {
-        return LineAnswer::Refused(refused_in(line, 1));
+    let Some(read) = line_at(text, p, b"at,", 4) else {
+        return Err(refused_in(line, 1));
     };
     let numbers = read.numbers;
     let fields = PlacementFields {
@@ -165,10 +144,11 @@ fn placement_line(
         x: numbers[2],
         y: numbers[3],
     };
-    match placement_of(size, table, i, line, fields) {
-        PlaceAnswer::Refused(refusal) => LineAnswer::Refused(refusal),
-        PlaceAnswer::Placed(place) => LineAnswer::Read(place, next),
-    }
+    let place = placement_of(size, table, i, line, fields)?;
+    Ok(PlacedLine {
+        place,
+        next: read.next,
+    })
 }
 
 // Sets the entry of piece i, where the layout buffer has one.
@@ -187,32 +167,24 @@ fn read_placements(
     text: &[u8],
     p: usize,
     layout: &mut [PlaceEntry],
-) -> DoneAnswer
+) -> Result<(), Refusal>
     requires { Fitting size table.now × (p ≤ length text.now) }
     ensures answer { (pixels : List ℕ) → result ≡ done_answer (placements_at (job_of (lent_by size table.now pixels)) text.now size.count 0 p 2) }
     ensures memory { (pixels : List ℕ) (v : Layout) → placements_at (job_of (lent_by size table.now pixels)) text.now size.count 0 p 2 ≡ given v → layout.new ≡ sets layout.old 0 (entries_of v) }
 {
     let mut at = p;
     let mut line = 2;
-    let mut i = 0;
-    while i < size.count {
-        match placement_line(size, table, text, i, at, line) {
-            LineAnswer::Refused(refusal) => {
-                return DoneAnswer::Refused(refusal);
-            }
-            LineAnswer::Read(place, next) => {
-                set_entry(layout, i, place);
-                at = next;
-            }
-        }
+    for i in 0..size.count {
+        let read = placement_line(size, table, text, i, at, line)?;
+        set_entry(layout, i, read.place);
+        at = read.next;
         line += 1;
-        i += 1;
     }
     let more = at != text.len();
     if more {
-        return DoneAnswer::Refused(refused_in(line, 1));
+        return Err(refused_in(line, 1));
     }
-    DoneAnswer::Done
+    Ok(())
 }
 
 // The pieces' lines into a layout buffer of the job's length. The first reading has no buffer, so that a refusal writes nothing.
@@ -222,13 +194,11 @@ fn fill_layout(
     text: &[u8],
     p: usize,
     layout: &mut [PlaceEntry],
-) -> DoneAnswer
+) -> Result<(), Refusal>
     requires { Fitting size table.now × (p ≤ length text.now) }
     ensures { (pixels : List ℕ) → (result ≡ done_answer (layout_from (job_of (lent_by size table.now pixels)) text.now p (length layout.old))) × (layout.new ≡ layout_after layout.old (layout_from (job_of (lent_by size table.now pixels)) text.now p (length layout.old))) }
 {
-    if let DoneAnswer::Refused(refusal) = read_placements(size, table, text, p, &mut layout[..0]) {
-        return DoneAnswer::Refused(refusal);
-    }
+    read_placements(size, table, text, p, &mut layout[..0])?;
     if layout.len() != size.count {
         return refused(7);
     }
@@ -242,15 +212,13 @@ pub fn read_layout(
     pixels: &[u8],
     text: &[u8],
     layout: &mut [PlaceEntry],
-) -> DoneAnswer
+) -> Result<(), Refusal>
     ensures answer { result ≡ done_answer (read_layout_call (lent_by size table.now pixels.now) text.now (length layout.old)) }
     ensures memory { layout.new ≡ layout_after layout.old (read_layout_call (lent_by size table.now pixels.now) text.now (length layout.old)) }
 {
     if !job_check::check_job(size, table, pixels) {
         return refused(8);
     }
-    match layout_line(size, text) {
-        PositionAnswer::Refused(refusal) => DoneAnswer::Refused(refusal),
-        PositionAnswer::After(p) => fill_layout(size, table, text, p, layout),
-    }
+    let p = layout_line(size, text)?;
+    fill_layout(size, table, text, p, layout)
 }

@@ -95,12 +95,10 @@ fn slide_room(
 {
     let corner = corner_along(place_at(layout, i), direction);
     let mut room = corner.along;
-    let mut k = 0;
-    while k < layout.len() {
+    for k in 0..layout.len() {
         room = room_beside(
             size, table, pixels, layout, i, k, direction, room, store, spans,
         );
-        k += 1;
     }
     room
 }

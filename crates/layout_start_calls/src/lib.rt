@@ -8,7 +8,6 @@ ghost use Rattle.model.specs.Lent.{lent_by, job_of};
 ghost use Rattle.model.specs.Start.{falling_order, free_only, empty_stack, start, start_of_all};
 ghost use Rattle.model.specs.Buffer.{entries_of, layout_of};
 ghost use Rattle.model.specs.Calls.{layout_after, start_call};
-ghost use Rattle.model.specs.declared.DoneAnswer.{DoneAnswer};
 ghost use Rattle.descent_laws.specs.Start.{StartClaims};
 ghost use Rattle.layout_places.specs.Fitting.{Fitting};
 ghost use Rattle.layout_start_calls.specs.Stacks.{stack_entries};
@@ -17,7 +16,7 @@ mod order;
 mod stack;
 
 use causes::locked::start_causes;
-use model::{DoneAnswer, JobSize, PIECE_BOUND, PieceEntry, PlaceEntry};
+use model::{JobSize, PIECE_BOUND, PieceEntry, PlaceEntry, Refusal};
 
 // Writes the start layout of all pieces, whatever is locked.
 pub fn start_of_all(size: JobSize, table: &[PieceEntry], layout: &mut [PlaceEntry])
@@ -45,14 +44,12 @@ pub fn start(
     table: &[PieceEntry],
     pixels: &[u8],
     layout: &mut [PlaceEntry],
-) -> DoneAnswer
+) -> Result<(), Refusal>
     ensures answer { result ≡ done_answer (start_call (lent_by size table.now pixels.now) layout.old) }
     ensures memory { layout.new ≡ layout_after layout.old (start_call (lent_by size table.now pixels.now) layout.old) }
-    ensures layout { result ≡ DoneAnswer.Done → StartClaims (job_of (lent_by size table.now pixels.now)) (layout_of layout.old) (layout_of layout.new) }
+    ensures layout { result ≡ Ok tt → StartClaims (job_of (lent_by size table.now pixels.now)) (layout_of layout.old) (layout_of layout.new) }
 {
-    if let DoneAnswer::Refused(refusal) = start_causes(size, table, pixels, layout) {
-        return DoneAnswer::Refused(refusal);
-    }
+    start_causes(size, table, pixels, layout)?;
     stack_free(size, table, layout);
-    DoneAnswer::Done
+    Ok(())
 }

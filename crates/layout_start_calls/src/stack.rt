@@ -8,7 +8,6 @@ ghost use Rattle.layout_start_calls.specs.Stacks.{stack_of, stack_entries, PileR
 use layout_places::entry_of;
 use model::{Column, JobSize, PIECE_BOUND, PieceEntry, PlaceEntry, Placement, Row, Turn};
 use piece_table::{columns_of, rows_of};
-use whole_numbers::{larger, smaller};
 
 // A stack of pieces: its left side, its height and its length so far. Document 01's X, Y and M.
 #[derive(Clone, Copy)]
@@ -40,12 +39,13 @@ fn on_top(size: JobSize, table: &[PieceEntry], i: usize, pile: Pile) -> Placemen
     requires { (i < length table.now) × (entry_columns table.now i ≤ size.columns) × (size.columns ≤ column_bound) }
     ensures { (pixels : List ℕ) → result ≡ on_stack (job_of (lent_by size table.now pixels)) i (stack_of pile) }
 {
-    let x = smaller(pile.left.0 as usize, size.columns - columns_of(table, i));
-    let y = pile.height;
+    let left = pile.left.0 as usize;
+    let last = size.columns - columns_of(table, i);
+    let x = left.min(last);
     Placement {
         turn: Turn::Zero,
         x: Column(x as u16),
-        y: y,
+        y: pile.height,
     }
 }
 
@@ -59,7 +59,7 @@ fn piled(size: JobSize, table: &[PieceEntry], i: usize, pile: Pile) -> Pile
     Pile {
         left: left,
         height: Row(top as u16),
-        length: larger(pile.length, columns_of(table, i)),
+        length: pile.length.max(columns_of(table, i)),
     }
 }
 
@@ -79,12 +79,9 @@ pub fn stack_all(
         height: Row(0),
         length: 0,
     };
-    let mut k = 0;
-    while k < count {
-        let i = order[k];
+    for &i in &order[..count] {
         pile = room_for(size, table, i, pile);
         layout[i] = entry_of(on_top(size, table, i, pile));
         pile = piled(size, table, i, pile);
-        k += 1;
     }
 }

@@ -6,10 +6,6 @@ use Rattle.model.specs.Buffer.{layout_of}
 use Rattle.layout_sum_calls.specs.Conflicting.{row_before, RowFirst}
 
 module _ (test : Pair → Bool) (n i : ℕ) (rest : List Pair) where
-  -- what is left of the row from k on, in front of the rest
-  abbrev left_from : ℕ → List Pair
-  left_from k = pairs_with i k (n - k) ++ rest
-
   -- the first of the pairs that are left
   first_left : (k left : ℕ) (b : Bool) → test (pair_of i k) ≡ b
       → first_pair test (pairs_with i k (suc left) ++ rest)

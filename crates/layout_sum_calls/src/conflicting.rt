@@ -13,13 +13,6 @@ ghost use Rattle.layout_sum_calls.specs.Conflicting.{RowFirst};
 use layout_strips::{StripSpan, conflicts_of, empty_store, no_spans};
 use model::{JobSize, PieceEntry, PlaceEntry, StripEntry};
 
-// The pair that conflicts, if there is one.
-#[derive(Clone, Copy)]
-pub enum ConflictingPair {
-    Conflicting(u32, u32),
-    Apart,
-}
-
 // The first piece above i that conflicts with it, or the number of pieces where none does.
 fn conflicting_in_row(
     table: &[PieceEntry],
@@ -37,14 +30,12 @@ fn conflicting_in_row(
     ensures first { (size : JobSize) → size.gap ≡ gap → RowFirst (pair_conflicts (job_of (lent_by size table.now pixels.now)) (layout_of layout.now)) (length layout.now) i result }
     ensures kept { Kept Horizontal table.now pixels.now layout.now rows.new row_spans.new }
 {
-    let mut k = i + 1;
-    while k < layout.len() {
+    for k in i + 1..layout.len() {
         if conflicts_of(table, pixels, layout, i, k, gap, rows, row_spans) {
             return k;
         }
-        k += 1;
     }
-    k
+    layout.len()
 }
 
 // The first pair that conflicts, with the strips of the pieces in a lent store.
@@ -55,21 +46,19 @@ fn first_conflicting(
     gap: u32,
     rows: &mut [StripEntry],
     row_spans: &mut [StripSpan],
-) -> ConflictingPair
+) -> Option<(u32, u32)>
     requires fact_1 { Drawable table.now layout.now }
     requires fact_2 { Kept Horizontal table.now pixels.now layout.now rows.old row_spans.old }
     requires fact_3 { gap ≤ gap_bound }
     ensures { (size : JobSize) → size.gap ≡ gap → size.count ≡ length layout.now → result ≡ conflicting_answer (conflicting_pair (job_of (lent_by size table.now pixels.now)) (layout_of layout.now)) }
 {
-    let mut i = 0;
-    while i < layout.len() {
+    for i in 0..layout.len() {
         let k = conflicting_in_row(table, pixels, layout, i, gap, rows, row_spans);
         if k < layout.len() {
-            return ConflictingPair::Conflicting(i as u32, k as u32);
+            return Some((i as u32, k as u32));
         }
-        i += 1;
     }
-    ConflictingPair::Apart
+    None
 }
 
 // The first pair of a layout that conflicts.
@@ -78,7 +67,7 @@ pub fn conflicting_pair(
     table: &[PieceEntry],
     pixels: &[u8],
     layout: &[PlaceEntry],
-) -> ConflictingPair
+) -> Option<(u32, u32)>
     requires fact_1 { Drawable table.now layout.now }
     requires fact_2 { size.gap ≤ gap_bound }
     ensures { size.count ≡ length layout.now → result ≡ conflicting_answer (conflicting_pair (job_of (lent_by size table.now pixels.now)) (layout_of layout.now)) }

@@ -11,8 +11,8 @@ ghost use Rattle.model.specs.Calls.{weighted_sum_call, plain_sum_call, check_cal
 ghost use Rattle.layout_sum_calls.specs.Answers.{conflict_answer};
 
 use causes::{layout_causes, weighted_causes};
-use conflicting::{ConflictingPair, conflicting_pair};
-use model::{DoneAnswer, JobSize, NumberAnswer, PieceEntry, PlaceEntry, Refusal};
+use conflicting::conflicting_pair;
+use model::{JobSize, PieceEntry, PlaceEntry, Refusal};
 use search_sums::{plain_total, total};
 use search_table::penalties_of;
 
@@ -23,16 +23,12 @@ pub fn weighted_sum(
     pixels: &[u8],
     layout: &[PlaceEntry],
     weights: &[u32],
-) -> NumberAnswer
+) -> Result<u64, Refusal>
     ensures { result ≡ number_answer (weighted_sum_call (lent_by size table.now pixels.now) layout.now weights.now) }
 {
-    match weighted_causes(size, table, pixels, layout, weights, false, false) {
-        DoneAnswer::Refused(refusal) => NumberAnswer::Refused(refusal),
-        DoneAnswer::Done => {
-            let penalties = penalties_of(size, table, pixels, layout);
-            NumberAnswer::Number(total(&penalties, weights, size.count))
-        }
-    }
+    weighted_causes(size, table, pixels, layout, weights, false, false)?;
+    let penalties = penalties_of(size, table, pixels, layout);
+    Ok(total(&penalties, weights, size.count))
 }
 
 // The plain sum of a layout, or its refusal.
@@ -41,29 +37,25 @@ pub fn plain_sum(
     table: &[PieceEntry],
     pixels: &[u8],
     layout: &[PlaceEntry],
-) -> NumberAnswer
+) -> Result<u64, Refusal>
     ensures { result ≡ number_answer (plain_sum_call (lent_by size table.now pixels.now) layout.now) }
 {
-    match layout_causes(size, table, pixels, layout) {
-        DoneAnswer::Refused(refusal) => NumberAnswer::Refused(refusal),
-        DoneAnswer::Done => {
-            let penalties = penalties_of(size, table, pixels, layout);
-            NumberAnswer::Number(plain_total(&penalties, size.count))
-        }
-    }
+    layout_causes(size, table, pixels, layout)?;
+    let penalties = penalties_of(size, table, pixels, layout);
+    Ok(plain_total(&penalties, size.count))
 }
 
 // What the check says of the first pair that conflicts: refusal 12 with the pair.
-fn conflict_answer(pair: ConflictingPair) -> DoneAnswer
+fn conflict_answer(pair: Option<(u32, u32)>) -> Result<(), Refusal>
     ensures { result ≡ conflict_answer pair }
 {
     match pair {
-        ConflictingPair::Conflicting(first, second) => DoneAnswer::Refused(Refusal {
+        Some((first, second)) => Err(Refusal {
             number: 12,
             first,
             second,
         }),
-        ConflictingPair::Apart => DoneAnswer::Done,
+        None => Ok(()),
     }
 }
 
@@ -73,11 +65,9 @@ pub fn check(
     table: &[PieceEntry],
     pixels: &[u8],
     layout: &[PlaceEntry],
-) -> DoneAnswer
+) -> Result<(), Refusal>
     ensures { result ≡ done_answer (check_call (lent_by size table.now pixels.now) layout.now) }
 {
-    match layout_causes(size, table, pixels, layout) {
-        DoneAnswer::Refused(refusal) => DoneAnswer::Refused(refusal),
-        DoneAnswer::Done => conflict_answer(conflicting_pair(size, table, pixels, layout)),
-    }
+    layout_causes(size, table, pixels, layout)?;
+    conflict_answer(conflicting_pair(size, table, pixels, layout))
 }

@@ -14,7 +14,7 @@ ghost use Rattle.model.specs.Calls.{write_layout_call, text_after};
 ghost use Rattle.layout_write_calls.specs.Written.{Written};
 
 use causes::layout_causes;
-use model::{DoneAnswer, JobSize, NumberAnswer, PieceEntry, PlaceEntry, plain_refusal};
+use model::{JobSize, PieceEntry, PlaceEntry, Refusal, plain_refusal};
 use text_fields::{put_byte, put_number, put_word};
 
 // A number with the byte that ends it, and the position after it.
@@ -74,10 +74,8 @@ fn put_layout(size: JobSize, layout: &[PlaceEntry], text: &mut [u8]) -> usize
     ensures { (table : List (List ℕ)) (pixels : List ℕ) → (result ≡ length (layout_text (job_of (lent_by size table pixels)) (layout_of layout.now))) × (text.new ≡ sets text.old 0 (layout_text (job_of (lent_by size table pixels)) (layout_of layout.now))) }
 {
     let mut at = put_layout_line(size, text);
-    let mut i = 0;
-    while i < size.count {
+    for i in 0..size.count {
         at = put_placement(layout, i, text, at);
-        i += 1;
     }
     at
 }
@@ -89,18 +87,16 @@ pub fn write_layout(
     pixels: &[u8],
     layout: &[PlaceEntry],
     text: &mut [u8],
-) -> NumberAnswer
+) -> Result<u64, Refusal>
     ensures answer { result ≡ count_answer (write_layout_call (lent_by size table.now pixels.now) layout.now (length text.old)) }
     ensures memory { text.new ≡ text_after text.old (write_layout_call (lent_by size table.now pixels.now) layout.now (length text.old)) }
 {
-    if let DoneAnswer::Refused(refusal) = layout_causes(size, table, pixels, layout) {
-        return NumberAnswer::Refused(refusal);
-    }
+    layout_causes(size, table, pixels, layout)?;
     let needed = put_layout(size, layout, &mut text[..0]);
     let short = text.len() < needed;
     if short {
-        return NumberAnswer::Refused(plain_refusal(7));
+        return Err(plain_refusal(7));
     }
     put_layout(size, layout, text);
-    NumberAnswer::Number(needed as u64)
+    Ok(needed as u64)
 }

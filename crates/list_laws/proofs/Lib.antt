@@ -9,6 +9,8 @@ pub mod Sums
 pub mod Lists
 pub mod Equal
 pub mod Stores
+pub mod Exits
+pub mod Ranges
 pub mod Passes
 pub mod Copying
 pub mod Kit

@@ -1,7 +1,7 @@
 -- Lists: what is an element, lists with no element, maps and repeats, lists that are set at the same places. Assumes nothing.
 use Rattle.list_laws.proofs.Kit.{◌∙◌, ◌≡◌, ap, refl, sym, List, Memᴰ, Memᴰ-head, Memᴰ-not_nil, Memᴰ-tail, [], ◌++◌, ◌∷◌, map}
-use Rattle.list_laws.proofs.Kit.{◌<◌, ◌≤◌, suc, zero, ℕ, le_of_suc-le-suc, not-suc-le-zero, arith, get_or, length, length-append, length-replicate}
-use Rattle.list_laws.proofs.Kit.{replicate, set, take, length-take-le, take_at, ⊎_elim, Memᴰ-cases_cons, length-set, get_or-set_other, get_or-set_same}
+use Rattle.list_laws.proofs.Kit.{◌<◌, ◌≤◌, suc, zero, ℕ, le_of_suc-le-suc, not-suc-le-zero, arith, get_or, length, length-replicate}
+use Rattle.list_laws.proofs.Kit.{replicate, set, take, length-take-le, ⊎_elim, Memᴰ-cases_cons, length-set, get_or-set_other, get_or-set_same}
 use Rattle.list_laws.proofs.Kit.{ext_get_or, ℕ_discrete}
 
 -- the element at a place is in the list
@@ -63,16 +63,6 @@ pub map_set : {A B : Type 0} (f : A → B) (l : List A) (i : ℕ) (a : A) → ma
 map_set f [] i a = refl
 map_set f (x ∷ l) zero a = refl
 map_set {B = B} f (x ∷ l) (suc i) a = ap (λ (z : List B). f x ∷ z) (map_set f l i a)
-
--- a front that was written anew holds what was written
-pub written_front : {A : Type 0} (n : ℕ) (written rest target : List A) → written ≡ target → length target ≡ n → take n (written ++ rest) ≡ target
-written_front n written rest target e l = take_at written rest n (ap length e ∙ l) ∙ e
-
--- and the whole is long enough for it
-pub written_room : {A : Type 0} (n : ℕ) (written rest target : List A) → written ≡ target → length target ≡ n → n ≤ length (written ++ rest)
-written_room n written rest target e l =
-    let all = length-append written rest in
-    let same : length written ≡ length target = ap length e in omega arith
 
 -- a front is as long as asked
 pub front_length : {A : Type 0} (n : ℕ) (l : List A) → n ≤ length l → n ≡ length (take n l)

@@ -34,7 +34,8 @@
 --   the program            in its text: 7 (line 0) for too long an input, else the reader's
 --                                                                                          Program, program_text
 --                          7 where a lent output buffer is shorter than the text           Program, program_call
-use Rattle.std.specs.Prelude.{Bool, true, false, not, ◌&&◌, ◌||◌, List, [], ◌∷◌, ◌++◌, map, ℕ, ◌*◌, ltb, eqb, ℤ, length, get_or, set}
+use Rattle.model.specs.declared.Refusal.{Refusal}
+use Rattle.std.specs.Prelude.{Bool, true, false, not, ◌&&◌, ◌||◌, List, [], ◌∷◌, ◌++◌, map, ℕ, ◌*◌, ltb, eqb, ℤ, length, get_or, set, Result, Ok, Err}
 use Rattle.std.proofs.Math.Option.{Option, none, some}
 use Rattle.model.specs.Bounded.{any_below}
 use Rattle.model.specs.Piece.{Shape, tight, side_bound}
@@ -64,7 +65,6 @@ use Rattle.model.specs.declared.Line.{Line}
 use Rattle.model.specs.declared.CutStep.{CutStep}
 use Rattle.model.specs.declared.Figures.{Figures}
 use Rattle.model.specs.declared.Placement.{Placement}
-use Rattle.model.specs.declared.NumberAnswer.{NumberAnswer}
 
 -- what a lent buffer holds after a call: the given value's content, or on a refusal what it held before
 abbrev pub leaving : {A B : Type 0} → (A → B) → B → Outcome A → B
@@ -423,9 +423,9 @@ abbrev pub compact_after : List (List ℕ) → Outcome Compacted → List (List 
 compact_after before o = leaving (λ c. entries_of c.layout) before o
 
 -- what is told of it: the pixels slid
-abbrev pub slid_answer : Outcome Compacted → NumberAnswer
-slid_answer (refused r) = NumberAnswer.Refused r
-slid_answer (given c) = NumberAnswer.Number c.slid
+abbrev pub slid_answer : Outcome Compacted → Result ℕ Refusal
+slid_answer (refused r) = Err r
+slid_answer (given c) = Ok c.slid
 
 -- ── locks ──
 

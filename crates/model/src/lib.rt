@@ -42,7 +42,7 @@ pub const ROUND_BOUND: u32 = 1000;
 // The largest pitch, in sixty-fourths of a millimetre.
 pub const PITCH_BOUND: u32 = 4096;
 
-ghost use Rattle.std.specs.Prelude.{◌≡◌};
+ghost use Rattle.std.specs.Prelude.{◌≡◌, Err};
 ghost use Rattle.model.specs.Refusal.{plain_refusal};
 
 // A column number x, along the length of the sheet.
@@ -121,26 +121,12 @@ pub type PlaceEntry = [u16; 3];
 // A line to cut in a line buffer: its direction (0 horizontal, 1 vertical), its pixel line, and the pixel lines at which it begins and ends.
 pub type LineEntry = [u16; 4];
 
-// A refusal: its number and two places, 0 unless named.
+// A refusal: its number and two places, 0 unless named. A call that may be refused answers a Result with it.
 #[derive(Clone, Copy)]
 pub struct Refusal {
     pub number: u8,
     pub first: u32,
     pub second: u32,
-}
-
-// A call that gives nothing but what it wrote or checked: it is done, or why it is refused.
-#[derive(Clone, Copy)]
-pub enum DoneAnswer {
-    Done,
-    Refused(Refusal),
-}
-
-// A call that gives a number, or why it is refused.
-#[derive(Clone, Copy)]
-pub enum NumberAnswer {
-    Number(u64),
-    Refused(Refusal),
 }
 
 // What a preview shows of a layout: its weighted sum and its used length.
@@ -169,11 +155,11 @@ pub fn plain_refusal(number: u8) -> Refusal
     }
 }
 
-// A call that is refused by this number and no places.
-pub fn refused(number: u8) -> DoneAnswer
-    ensures { result ≡ DoneAnswer.Refused (plain_refusal number) }
+// What a call answers that is refused by this number and no places.
+pub fn refused(number: u8) -> Result<(), Refusal>
+    ensures { result ≡ Err (plain_refusal number) }
 {
-    DoneAnswer::Refused(plain_refusal(number))
+    Err(plain_refusal(number))
 }
 
 // How a descent ends: sum zero, all trials quiet, or budget used up.

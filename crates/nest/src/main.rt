@@ -3,7 +3,7 @@
 
 ghost use Rattle.std.specs.Prelude.{◌≡◌, ℕ, ◌≤◌, length};
 
-use model::NumberAnswer;
+use model::Refusal;
 use program_calls::{INPUT_BOUND, OUTPUT_BOUND, print_run};
 use std::io;
 use std::io::Read;
@@ -18,24 +18,24 @@ const SMALL_WORKSPACE: usize = 32768;
 const LARGE_WORKSPACE: usize = 262144;
 
 // What is printed for a small job.
-fn print_small(input: &[u8], output: &mut [u8]) -> NumberAnswer
-    ensures { (n : ℕ) → result ≡ NumberAnswer.Number n → n ≤ 4096 }
+fn print_small(input: &[u8], output: &mut [u8]) -> Result<u64, Refusal>
+    ensures { (n : ℕ) → result ≡ Ok n → n ≤ 4096 }
 {
     let mut workspace = [0u64; SMALL_WORKSPACE];
     print_run(input, output, &mut workspace)
 }
 
 // What is printed for a job of any size.
-fn print_large(input: &[u8], output: &mut [u8]) -> NumberAnswer
-    ensures { (n : ℕ) → result ≡ NumberAnswer.Number n → n ≤ 4096 }
+fn print_large(input: &[u8], output: &mut [u8]) -> Result<u64, Refusal>
+    ensures { (n : ℕ) → result ≡ Ok n → n ≤ 4096 }
 {
     let mut workspace = [0u64; LARGE_WORKSPACE];
     print_run(input, output, &mut workspace)
 }
 
 // What is printed for an input, with a workspace by what its job needs.
-fn print_sized(input: &[u8], output: &mut [u8]) -> NumberAnswer
-    ensures { (n : ℕ) → result ≡ NumberAnswer.Number n → n ≤ 4096 }
+fn print_sized(input: &[u8], output: &mut [u8]) -> Result<u64, Refusal>
+    ensures { (n : ℕ) → result ≡ Ok n → n ≤ 4096 }
 {
     if input.len() < SMALL_INPUT {
         return print_small(input, output);
@@ -48,6 +48,7 @@ fn read_full<R: Read>(input: &mut R, buffer: &mut [u8]) -> usize
     ensures { result ≤ length buffer.new }
 {
     let mut filled = 0;
+    // A while: each turn goes on by what one read gives.
     while filled < buffer.len() {
         match input.read(&mut buffer[filled..]) {
             Ok(0) | Err(_) => break,
@@ -64,7 +65,7 @@ fn main(rt: HostRuntime) -> io::Result<()> {
     let read = read_full(&mut rt.stdin(), &mut input);
     let mut output = [0u8; OUTPUT_BOUND];
     // No output has more bytes than this buffer, so that it is not refused.
-    let NumberAnswer::Number(written) = print_sized(&input[..read], &mut output) else {
+    let Ok(written) = print_sized(&input[..read], &mut output) else {
         return Ok(());
     };
     let count = written as usize;

@@ -7,7 +7,10 @@ use Rattle.job_laws.proofs.Checked.{facts}
 use Rattle.model.specs.Buffer.{layout_of}
 use Rattle.model.specs.Calls.{some_turn_wrong, pair_causes}
 use Rattle.list_laws.proofs.Tests.{or_neither}
+use Rattle.std.specs.Prelude.{Ok}
+use Rattle.model.specs.Answers.{first_cause}
 use Rattle.text_laws.specs.Outcomes.{NoCause}
+use Rattle.text_laws.proofs.Causes.{passed_none}
 use Rattle.descent_laws.specs.LentLayout.{Laid}
 use Rattle.causes.proofs.Passed.{laid_by}
 use Rattle.pair_measure.specs.Ready.{MeasureReady, Together}
@@ -46,3 +49,7 @@ measurable l es i k h =
       together = pair_together l laid.well i k a b (eqb-false i k (or_neither ((t || u) || v) (eqb i k) h.1.1.0).1);
       gap_small = (facts l laid.well).small_gap;
     }
+
+-- so it is where the causes were asked and none refused
+pub asked : (l : Lent) (es : List (List ℕ)) (i k : ℕ) → Ok tt ≡ first_cause (pair_causes l es i k) → Measurable l es i k
+asked l es i k e = measurable l es i k (passed_none _ e)

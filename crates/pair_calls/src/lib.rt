@@ -9,18 +9,12 @@ ghost use Rattle.model.specs.Calls.{pair_causes, share_call, depth_call, penalty
 ghost use Rattle.pair_calls.specs.Answers.{share_answer};
 
 use causes::{Wrong, call_causes};
-use model::{Direction, DoneAnswer, JobSize, NumberAnswer, PieceEntry, PlaceEntry, Refusal};
+use layout_places::place_at;
+use model::{Direction, JobSize, PieceEntry, PlaceEntry, Refusal};
 use pair_measure::{placed_depth, placed_penalty};
 
 // One more than the largest depth, that of two boxes of 255 with a gap of 8.
 const DEPTH_END: u32 = 264;
-
-// Whether two pieces conflict, or why the question is refused.
-#[derive(Clone, Copy)]
-pub enum ShareAnswer {
-    Shares(bool),
-    Refused(Refusal),
-}
 
 // Cause 9 of a pair: no such piece, or a piece with itself.
 fn wrong_pair(count: usize, i: usize, k: usize) -> bool
@@ -43,7 +37,7 @@ fn pair_causes(
     layout: &[PlaceEntry],
     i: usize,
     k: usize,
-) -> DoneAnswer
+) -> Result<(), Refusal>
     ensures { result ≡ first_cause (pair_causes (lent_by size table.now pixels.now) layout.now i k) }
 {
     let wrong = Wrong {
@@ -62,27 +56,25 @@ pub fn shares_pixel(
     layout: &[PlaceEntry],
     i: usize,
     k: usize,
-) -> ShareAnswer
+) -> Result<bool, Refusal>
     ensures { result ≡ share_answer (share_call (lent_by size table.now pixels.now) layout.now i k) }
 {
-    match pair_causes(size, table, pixels, layout, i, k) {
-        DoneAnswer::Refused(refusal) => ShareAnswer::Refused(refusal),
-        DoneAnswer::Done => {
-            let gap = size.gap as u32;
-            let amount = placed_depth(
-                table,
-                pixels,
-                i,
-                layout_places::place_at(layout, i),
-                k,
-                layout_places::place_at(layout, k),
-                Direction::Horizontal,
-                gap,
-                1,
-            );
-            ShareAnswer::Shares(amount == 1)
-        }
-    }
+    pair_causes(size, table, pixels, layout, i, k)?;
+    let gap = size.gap as u32;
+    let first = place_at(layout, i);
+    let second = place_at(layout, k);
+    let amount = placed_depth(
+        table,
+        pixels,
+        i,
+        first,
+        k,
+        second,
+        Direction::Horizontal,
+        gap,
+        1,
+    );
+    Ok(amount == 1)
 }
 
 // The depth of pieces i and k along a direction in the layout.
@@ -94,28 +86,18 @@ pub fn depth(
     i: usize,
     k: usize,
     direction: Direction,
-) -> NumberAnswer
+) -> Result<u64, Refusal>
     ensures answer { result ≡ number_answer (depth_call direction (lent_by size table.now pixels.now) layout.now i k) }
-    ensures small { (n : ℕ) → result ≡ NumberAnswer.Number n → n < 2 ^ 32 }
+    ensures small { (n : ℕ) → result ≡ Ok n → n < 2 ^ 32 }
 {
-    match pair_causes(size, table, pixels, layout, i, k) {
-        DoneAnswer::Refused(refusal) => NumberAnswer::Refused(refusal),
-        DoneAnswer::Done => {
-            let gap = size.gap as u32;
-            let amount = placed_depth(
-                table,
-                pixels,
-                i,
-                layout_places::place_at(layout, i),
-                k,
-                layout_places::place_at(layout, k),
-                direction,
-                gap,
-                DEPTH_END,
-            );
-            NumberAnswer::Number(amount as u64)
-        }
-    }
+    pair_causes(size, table, pixels, layout, i, k)?;
+    let gap = size.gap as u32;
+    let first = place_at(layout, i);
+    let second = place_at(layout, k);
+    let amount = placed_depth(
+        table, pixels, i, first, k, second, direction, gap, DEPTH_END,
+    );
+    Ok(amount as u64)
 }
 
 // The penalty of pieces i and k in the layout.
@@ -126,24 +108,14 @@ pub fn penalty(
     layout: &[PlaceEntry],
     i: usize,
     k: usize,
-) -> NumberAnswer
+) -> Result<u64, Refusal>
     ensures answer { result ≡ number_answer (penalty_call (lent_by size table.now pixels.now) layout.now i k) }
-    ensures small { (n : ℕ) → result ≡ NumberAnswer.Number n → n < 2 ^ 32 }
+    ensures small { (n : ℕ) → result ≡ Ok n → n < 2 ^ 32 }
 {
-    match pair_causes(size, table, pixels, layout, i, k) {
-        DoneAnswer::Refused(refusal) => NumberAnswer::Refused(refusal),
-        DoneAnswer::Done => {
-            let gap = size.gap as u32;
-            let amount = placed_penalty(
-                table,
-                pixels,
-                i,
-                layout_places::place_at(layout, i),
-                k,
-                layout_places::place_at(layout, k),
-                gap,
-            );
-            NumberAnswer::Number(amount as u64)
-        }
-    }
+    pair_causes(size, table, pixels, layout, i, k)?;
+    let gap = size.gap as u32;
+    let first = place_at(layout, i);
+    let second = place_at(layout, k);
+    let amount = placed_penalty(table, pixels, i, first, k, second, gap);
+    Ok(amount as u64)
 }

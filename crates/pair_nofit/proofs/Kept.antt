@@ -1,6 +1,6 @@
 -- Intervals of shifts marked in a list of words: what a step adds, and that nothing is lost. Assumes nothing.
-use Rattle.list_laws.proofs.Kit.{◌∙◌, ◌≡◌, refl, subst, false, true, ◌⊎◌, inl, inr, ⊎_elim, List, ◌++◌, append-nil, ◌*◌, ◌+◌, ◌-◌, ◌/◌, ◌<◌, ◌≤◌, ℕ}
-use Rattle.list_laws.proofs.Kit.{le_antisymm, arith, drop, get_or-replicate, length, replicate, drop-length}
+use Rattle.list_laws.proofs.Kit.{◌∙◌, ◌≡◌, subst, false, true, ◌⊎◌, inl, inr, ⊎_elim, List, ◌*◌, ◌+◌, ◌-◌, ◌/◌, ◌<◌, ◌≤◌, ℕ}
+use Rattle.list_laws.proofs.Kit.{le_antisymm, arith, get_or-replicate, length, replicate}
 use Rattle.model.specs.Strip.{Strip}
 use Rattle.list_laws.proofs.Numbers.{below_or}
 use Rattle.bit_laws.specs.Bit.{bit_in}
@@ -36,10 +36,6 @@ from_more P from j h p l a b = ⊎_elim (h l a) (λ (g : j ≤ l). subst P (le_a
 -- ── all strips ──
 
 module _ (g : ℕ) (es : List (List ℕ)) (u : Corner) (fs : List (List ℕ)) (v : Corner) where
-  -- nothing done
-  pub grown_none : (marks : List ℕ) → Grown g es u fs v marks marks
-  grown_none marks = record { same = refl; grows = λ m e. e; sound = λ m e. inl e }
-
   -- one step after another
   pub grown_then : (before marks after : List ℕ) → Grown g es u fs v before marks → Grown g es u fs v marks after → Grown g es u fs v before after
   grown_then before marks after f h =
@@ -110,7 +106,6 @@ line_order es o i j l m = omega (arith, o.order i j l m, o.low j m)
 
 -- what the strips of the first stretch before i have kept, where those of the second before j lie in earlier lines than the rest
 pub record AllSoFar (g : ℕ) (es : List (List ℕ)) (u : Corner) (fs : List (List ℕ)) (v : Corner) (before marks : List ℕ) (i j : ℕ) : Type 0 where
-  pub first : i ≤ length es
   pub second : j ≤ length fs
   pub grown : Grown g es u fs v before marks
   pub kept : (k l : ℕ) → k < i → l < length fs → MeetingsKept g es u fs v marks k l
@@ -124,7 +119,6 @@ all_more g es u fs v o before marks after i j r b line e w t m =
     let earlier : (l : ℕ) → l < r → (strip_at fs l).line + v.across < (strip_at es i).line + u.across =
     λ l a. ⊎_elim (λ (h : l < j). w.passed i l (omega arith) b h) (λ (h : j ≤ l). omega (arith, t.before l h a)) (below_or l j) in
     record {
-      first = omega arith;
       second = t.within;
       grown = grown_then g es u fs v before marks after w.grown m.grown;
       kept =
@@ -142,22 +136,16 @@ all_more g es u fs v o before marks after i j r b line e w t m =
 
 -- what is kept of the strips that are in one line with the first piece raised by g and the second by a number below k
 pub record GapSoFar (g : ℕ) (es : List (List ℕ)) (u : Corner) (fs : List (List ℕ)) (v : Corner) (before marks : List ℕ) (k : ℕ) : Type 0 where
-  pub few : k ≤ line_count g
   pub same : length marks ≡ length before
   pub sound : (m : ℕ) → bit_in marks m ≡ true → (bit_in before m ≡ true) ⊎ (meets_at g es u fs v m ≡ true)
   pub kept : (q : ℕ) → q < k → (m : ℕ) → m < length marks * 64 → lines_meet g es (raised g u) fs (raised q (shifted m v)) ≡ true → bit_in marks m ≡ true
 
 module _ (g : ℕ) (es : List (List ℕ)) (u : Corner) (fs : List (List ℕ)) (v : Corner) (before : List ℕ) where
-  -- nothing done
-  pub gap_none : GapSoFar g es u fs v before before 0
-  gap_none = record { few = omega arith; same = refl; sound = λ m e. inl e; kept = λ q b. absurd (omega arith) }
-
   -- the strips in one line with the second raised by one more
   pub gap_more : (marks after : List ℕ) (k : ℕ) → k < line_count g → GapSoFar g es u fs v before marks k
       → AllMarked g es (raised g u) fs (raised k v) marks after → GapSoFar g es u fs v before after (k + 1)
   gap_more marks after k few w a =
       record {
-        few = omega arith;
         same = a.grown.same ∙ w.same;
         sound =
             λ m e. ⊎_elim (w.sound m) (λ h. inr (raised_stretches g es u fs (shifted m v) k few h)) (a.grown.sound m e);
@@ -188,9 +176,3 @@ module _ (g : ℕ) (es : List (List ℕ)) (u : Corner) (fs : List (List ℕ)) (v
 -- words of 0 mark nothing
 pub noughts_clear : (n m : ℕ) → m < n * 64 → bit_in (replicate n 0) m ≡ false
 noughts_clear n m l = bit_none (replicate n 0) m (get_or-replicate {A = ℕ} n (m / 64) 0 0 (omega arith))
-
--- ── words filled with noughts ──
-
--- past the last word all are 0
-pub filled_whole : (k : ℕ) (old : List ℕ) → k ≡ length old → replicate k 0 ++ drop k old ≡ replicate (length old) 0
-filled_whole k old e = rw (e, drop-length old) (append-nil _)

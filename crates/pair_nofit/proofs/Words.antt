@@ -1,12 +1,12 @@
 -- An interval of places marked in a list of words, word by word. Assumes nothing.
-use Rattle.list_laws.proofs.Kit.{◌∙◌, ◌≡◌, ap, ap₂, refl, sym, Bool, ◌&&◌, ◌||◌, false, true, ◌⊎◌, inl, inr, ⊎_elim, List, ◌%◌, ◌*◌, ◌+◌, ◌-◌, ◌/◌}
+use Rattle.list_laws.proofs.Kit.{◌∙◌, ◌≡◌, ap, ap₂, sym, ◌&&◌, ◌||◌, true, ◌⊎◌, inl, inr, ⊎_elim, List, ◌%◌, ◌*◌, ◌+◌, ◌-◌, ◌/◌}
 use Rattle.list_laws.proofs.Kit.{◌<◌, ◌^◌, ◌≤◌, max, min, ℕ, arith, leb, le-leb, leb-true, lt-leb, ltb, le-ltb, lt-ltb, ltb-true, get_or, length, length-set, set}
 use Rattle.list_laws.proofs.Kit.{get_or-set_other, get_or-set_same}
 use Rattle.list_laws.proofs.Numbers.{below_or}
-use Rattle.list_laws.proofs.Tests.{and_left, and_right, and_both, or_cases, or_left, or_right, clash, first_fails, second_fails}
+use Rattle.list_laws.proofs.Tests.{and_left, and_right, and_both, or_cases, or_left, or_right, clash, first_fails}
 use lib.Bits.{bit_or, bit_and}
 use Rattle.bit_laws.specs.Bit.{bit_at, bit_in}
-use Rattle.bit_laws.proofs.Laws.{or_false, bit_or_lem, bit_and_lem, bit_shl, bit_shr, bit_above, all_set}
+use Rattle.bit_laws.proofs.Laws.{bit_or_lem, bit_and_lem, bit_shl, bit_shr, bit_above, all_set}
 use Rattle.bit_laws.proofs.Strings.{bit_in_lem, bit_past, bit_alike}
 use Rattle.pair_nofit.specs.Marks.{in_interval, WordBits, IntervalMarked}
 
@@ -48,20 +48,6 @@ pub record Marking (low high : ℕ) (before marks : List ℕ) (j : ℕ) : Type 0
   pub rest : (m : ℕ) → j * 64 ≤ m → bit_in marks m ≡ bit_in before m
 
 module _ (low high : ℕ) (before : List ℕ) where
-  -- a place outside the interval stays as it was
-  outside : (m : ℕ) → in_interval low high m ≡ false → bit_in before m ≡ (bit_in before m || in_interval low high m)
-  outside m e = sym (ap (λ (b : Bool). bit_in before m || b) e ∙ or_false (bit_in before m))
-
-  -- in the words before the interval nothing is to be done
-  pub marking_start : Marking low high before before (low / 64)
-  marking_start =
-      record {
-        from = omega arith;
-        same = refl;
-        done = λ m l. outside m (first_fails (ltb m high) (lt-leb low m (omega arith)));
-        rest = λ m l. refl;
-      }
-
   -- one more word
   pub marking_step : (marks after : List ℕ) (j word : ℕ) → j < length marks → WordBits low high (j * 64) word
       → after ≡ set marks j (bit_or (get_or marks j 0) word) → Marking low high before marks j → Marking low high before after (j + 1)
@@ -86,16 +72,6 @@ module _ (low high : ℕ) (before : List ℕ) where
           ∙ bit_or_lem (get_or marks j 0) word (m - j * 64)
           ∙ ap₂ ◌||◌ (sym (bit_in_lem marks j (m - j * 64) m (omega arith) (omega arith)) ∙ g.rest m h)
           (w.each (m - j * 64) (omega arith) ∙ ap (in_interval low high) e)
-
-  -- past the interval's last word, or the last of all, nothing is left to be done
-  pub marking_end : (marks : List ℕ) (j : ℕ) → min (length before) ((high + 63) / 64) ≤ j → Marking low high before marks j
-      → IntervalMarked low high before marks
-  marking_end marks j l g =
-      record {
-        same = g.same;
-        each = λ m b.
-            ⊎_elim (g.done m) (λ (h : j * 64 ≤ m). g.rest m h ∙ outside m (second_fails (leb low m) (le-ltb m high (omega arith)))) (below_or m (j * 64));
-      }
 
 -- ── what an interval adds ──
 

@@ -4,14 +4,13 @@
 // interval is marked word by word and not place by place.
 #![tactic(auto)]
 
-ghost use Rattle.std.specs.Prelude.{◌≡◌, ℕ, ◌+◌, ◌-◌, min, max, ◌<◌, ◌≤◌, length, replicate};
+ghost use Rattle.std.specs.Prelude.{ℕ, ◌+◌, ◌<◌, ◌≤◌, length};
 ghost use Rattle.model.specs.Piece.{gap_bound};
 ghost use Rattle.pair_overlap.specs.Meet.{strip_at, Ordered, Near, NearShifted};
 ghost use Rattle.pair_nofit.specs.Marks.{Covers, Joined, ShiftsMarked, PlacedAt, WordBits, IntervalMarked, LineMarked, AllMarked, GapMarked, LineStart};
 
 use model::StripEntry;
 use pair_overlap::Corner;
-use whole_numbers::{larger, smaller, wide};
 
 // A word of set bits.
 const ALL: u64 = 18446744073709551615;
@@ -36,11 +35,11 @@ fn placed_at(s: &[StripEntry], i: usize, u: Corner, spread: u32) -> Placed
     requires { (i < length s.now) × NearShifted u × (spread ≤ gap_bound) }
     ensures { PlacedAt (strip_at s.now i) u spread result }
 {
-    let begin = wide(s[i][1]) + u.along;
+    let begin = u32::from(s[i][1]) + u.along;
     Placed {
-        line: wide(s[i][0]) + u.across,
+        line: u32::from(s[i][0]) + u.across,
         begin,
-        end: begin + wide(s[i][2]) + spread,
+        end: begin + u32::from(s[i][2]) + spread,
     }
 }
 
@@ -51,22 +50,13 @@ fn line_start(s: &[StripEntry], u: Corner, line: u32, from: usize) -> usize
     requires fact_3 { from ≤ length s.now }
     ensures { LineStart s.now u.across line from result }
 {
-    let mut j = from;
-    while j < s.len() {
+    for j in from..s.len() {
         let q = placed_at(s, j, u, 0);
         if line <= q.line {
             return j;
         }
-        j += 1;
     }
-    j
-}
-
-// The difference of two numbers, 0 where the second is larger.
-fn minus(x: u32, y: u32) -> u32
-    ensures { result ≡ x - y }
-{
-    if x < y { 0 } else { x - y }
+    s.len()
 }
 
 // The bits of the interval from `low` up to and without `high` in the word whose first place is `start`: all places from the later of the two
@@ -76,8 +66,8 @@ fn word_bits(low: usize, high: usize, start: usize) -> u64
     requires { (low < start + 64) × (start < high) × (high < 4294967296) }
     ensures { WordBits low high start result }
 {
-    let from = larger(low, start) - start;
-    let past = start + 64 - smaller(high, start + 64);
+    let from = low.max(start) - start;
+    let past = start + 64 - high.min(start + 64);
     (ALL << from) & (ALL >> past)
 }
 
@@ -88,26 +78,10 @@ fn mark_interval(marks: &mut [u64], low: u32, high: u32)
 {
     let first = low as usize;
     let end = high as usize;
-    let words = smaller(marks.len(), (end + 63) / 64);
-    let mut j = first / 64;
-    while j < words {
+    let words = marks.len().min((end + 63) / 64);
+    for j in first / 64..words {
         marks[j] |= word_bits(first, end, j * 64);
-        j += 1;
     }
-}
-
-// The earlier of two places.
-fn earlier(x: u32, y: u32) -> u32
-    ensures { result ≡ min x y }
-{
-    if x < y { x } else { y }
-}
-
-// The later of two places.
-fn later(x: u32, y: u32) -> u32
-    ensures { result ≡ max x y }
-{
-    if x < y { y } else { x }
 }
 
 // What is known to be marked once an interval is marked too: both together where they touch, else the interval.
@@ -122,8 +96,8 @@ fn joined(covered: Covered, low: u32, high: u32) -> Covered
         return Covered { low, high };
     }
     Covered {
-        low: earlier(covered.low, low),
-        high: later(covered.high, high),
+        low: covered.low.min(low),
+        high: covered.high.max(high),
     }
 }
 
@@ -164,17 +138,15 @@ fn mark_line(
     ensures covers { Covers result marks.new }
 {
     let mut covered = known;
-    let mut j = from;
-    while j < b.len() {
+    for j in from..b.len() {
         let p = placed_at(a, i, u, gap);
         let q = placed_at(b, j, v, gap);
         if p.line < q.line {
             return covered;
         }
-        let low = minus(p.begin + 1, q.end);
-        let high = minus(p.end, q.begin);
+        let low = (p.begin + 1).saturating_sub(q.end);
+        let high = p.end.saturating_sub(q.begin);
         covered = cover(marks, covered, low, high);
-        j += 1;
     }
     covered
 }
@@ -197,13 +169,11 @@ fn mark_all(
     ensures covers { Covers result marks.new }
 {
     let mut covered = known;
-    let mut i = 0;
     let mut j = 0;
-    while i < a.len() {
+    for i in 0..a.len() {
         let p = placed_at(a, i, u, 0);
         j = line_start(b, v, p.line, j);
         covered = mark_line(a, i, u, b, j, v, gap, covered, marks);
-        i += 1;
     }
     covered
 }
@@ -218,8 +188,7 @@ fn mark_lines(a: &[StripEntry], u: Corner, b: &[StripEntry], v: Corner, gap: u32
 {
     let lines = 2 * gap + 1;
     let mut covered = Covered { low: 0, high: 0 };
-    let mut k = 0;
-    while k < lines {
+    for k in 0..lines {
         let p = Corner {
             along: u.along,
             across: u.across + gap,
@@ -229,18 +198,6 @@ fn mark_lines(a: &[StripEntry], u: Corner, b: &[StripEntry], v: Corner, gap: u32
             across: v.across + k,
         };
         covered = mark_all(a, p, b, q, gap, covered, marks);
-        k += 1;
-    }
-}
-
-// Clears every mark.
-fn clear(marks: &mut [u64])
-    ensures { marks.new ≡ replicate (length marks.old) 0 }
-{
-    let mut k = 0;
-    while k < marks.len() {
-        marks[k] = 0;
-        k += 1;
     }
 }
 
@@ -258,6 +215,6 @@ pub fn mark_shifts(
     requires fact_3 { Near u × Near v × (gap ≤ gap_bound) }
     ensures { ShiftsMarked gap a.now u b.now v marks.old marks.new }
 {
-    clear(marks);
+    marks.fill(0);
     mark_lines(a, u, b, v, gap, marks);
 }

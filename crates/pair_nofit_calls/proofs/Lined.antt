@@ -1,4 +1,5 @@
 -- The runs of a line's marks, and what putting them comes to. Assumes nothing.
+use Rattle.std.specs.Prelude.{Ok, Err}
 use Rattle.list_laws.proofs.Kit.{◌∙◌, ◌≡◌, ap, ap₂, sym, false, true, List, [], ◌++◌, map, ◌*◌, ◌<◌, ◌≤◌, min, ℕ, arith, ltb, length, length-sets}
 use Rattle.list_laws.proofs.Kit.{sets, ℤ, le-ltb, lt-ltb}
 use Rattle.model.specs.Strip.{Run, runs}
@@ -13,7 +14,6 @@ use Rattle.pair_nofit.specs.Marks.{meets_at, ShiftsMarked}
 use Rattle.model.specs.Answers.{count_answer}
 use Rattle.pair_nofit_calls.specs.Lines.{low_corner, high_corner, line_runs, line_outcome, line_after}
 use Rattle.pair_runs.specs.Runs.{offset_entry, offset_count, farthest, Put}
-use Rattle.model.specs.declared.NumberAnswer.{NumberAnswer}
 
 -- the runs of the marks are the line's, where there is a bit for each offset
 pub marks_line : (g : ℕ) (es fs : List (List ℕ)) (o : ℤ) (x y : ℕ) (before marks : List ℕ) → x ≡ min (down o) farthest → y ≡ min (up o) farthest
@@ -38,24 +38,24 @@ module _ (g : ℕ) (es fs : List (List ℕ)) (o : ℤ) (rs : List Run) (r : rs �
 
   -- no room: refused
   pub line_short : length (last ++ before) < needed → (w : Refusal) → w ≡ plain_refusal wrong_length
-      → (NumberAnswer.Refused w ≡ count_answer (line_outcome g es fs o (length before)))
+      → (Err w ≡ count_answer (line_outcome g es fs o (length before)))
       × (last ++ before ≡ line_after before (line_outcome g es fs o (length before)))
   unfolding unless
   line_short l w e =
       let t : ltb (length before) (length (line_runs g es fs o)) ≡ true =
       lt-ltb (length before) (length (line_runs g es fs o)) (omega (arith, p.end, ap length r, ap length counted_same)) in
       let f : line_outcome g es fs o (length before) ≡ refused (plain_refusal wrong_length) = rw (t, unless) in
-      (ap NumberAnswer.Refused e ∙ ap count_answer (sym f), counted_same ∙ ap (line_after before) (sym f))
+      (ap Err e ∙ ap count_answer (sym f), counted_same ∙ ap (line_after before) (sym f))
 
   -- room: given
   pub line_room : needed ≤ length (last ++ before) → (after : List (List ℤ)) (n : ℕ) → Put rs (last ++ before) 0 after n
-      → (NumberAnswer.Number n ≡ count_answer (line_outcome g es fs o (length before))) × (after ≡ line_after before (line_outcome g es fs o (length before)))
+      → (Ok n ≡ count_answer (line_outcome g es fs o (length before))) × (after ≡ line_after before (line_outcome g es fs o (length before)))
   unfolding unless
   line_room l after n q =
       let t : ltb (length before) (length (line_runs g es fs o)) ≡ false =
       le-ltb (length before) (length (line_runs g es fs o)) (omega (arith, p.end, ap length r, ap length counted_same)) in
       let f : line_outcome g es fs o (length before) ≡ given (line_runs g es fs o) = rw (t, unless) in
       let m : n ≡ length (line_runs g es fs o) = omega (arith, q.end, ap length r) in (
-        ap NumberAnswer.Number m ∙ ap count_answer (sym f),
+        ap Ok m ∙ ap count_answer (sym f),
         q.stored ∙ ap₂ (λ (b : List (List ℤ)) (z : List Run). sets b 0 (map offset_entry z)) counted_same r ∙ ap (line_after before) (sym f),
       )

@@ -1,6 +1,7 @@
 -- The no-fit calls: where no cause refuses, the lent stretches are the pieces' strips, and their line's runs are the no-fit line of
 -- document 01, by the job's gap. An offset of 263 or more across the direction parts any two pieces, whatever the gap, so it may be cut off
 -- there. Assumes nothing.
+use Rattle.std.specs.Prelude.{Ok, Err}
 use Rattle.list_laws.proofs.Kit.{◌∙◌, ◌≡◌, ap, ap₂, refl, subst, sym, Bool, ◌&&◌, false, true, ◌⊎◌, inl, inr, ⊎_elim, List, [], ◌++◌, ◌∷◌, map, ◌+◌, ◌<◌, ◌≤◌}
 use Rattle.list_laws.proofs.Kit.{min, ℕ, arith, ltb, drop, length, length-map, sets-eq, negsuc, pos, ℤ, ltb-false, not-false}
 use Rattle.model.specs.Piece.{Shape, extent, other}
@@ -20,7 +21,6 @@ use Rattle.text_laws.specs.Outcomes.{NoCause}
 use Rattle.strip_laws.proofs.Runs.{runs_agree}
 use Rattle.strip_laws.proofs.Strips.{strips_maximal}
 use Rattle.text_laws.proofs.Causes.{none_then, refused_then}
-use Rattle.model.specs.declared.DoneAnswer.{DoneAnswer}
 use Rattle.pair_overlap.specs.Meet.{strip_at, shifted, stretches_meet, Ordered}
 use Rattle.pair_overlap.specs.declared.Corner.{Corner}
 use Rattle.pair_overlap.specs.Seen.{entries}
@@ -31,7 +31,6 @@ use Rattle.pair_nofit.proofs.Marked.{first_corner, second_corner, marks_no_fit}
 use Rattle.model.specs.Answers.{count_answer, first_cause}
 use Rattle.pair_nofit_calls.specs.Lines.{low_corner, high_corner, line_runs, line_outcome, line_after, stretch_causes}
 use Rattle.pair_runs.specs.Runs.{offset_entry, offset_count, farthest}
-use Rattle.model.specs.declared.NumberAnswer.{NumberAnswer}
 use Rattle.pair_nofit_calls.proofs.Owning.{known_below}
 
 -- ── offsets cut off at 263 ──
@@ -110,7 +109,7 @@ outcome_by rs before false e =
     let n : length (map offset_entry rs) ≡ length rs = length-map rs offset_entry in
     let l : length rs ≤ length before = ltb-false _ _ e in
     let f : 0 + length (map offset_entry rs) ≡ length (map offset_entry rs) = omega arith in (
-      ap NumberAnswer.Number (sym (length-map rs unbiased)),
+      ap Ok (sym (length-map rs unbiased)),
       sets-eq (map offset_entry rs) before 0 (omega arith) ∙ ap (λ (z : ℕ). map offset_entry rs ++ drop z before) f
           ∙ ap (λ (z : List (List ℤ)). filled z before) (sym (map_runs rs)),
     )
@@ -183,7 +182,7 @@ module _ (d : Direction) (l : Lent) (p q : LentStretch) (none : NoCause (stretch
       record { answer = both.0 ∙ ap count_answer (sym call); memory = both.1 ∙ ap (runs_after before) (sym call) }
 
 -- a refusal before the room is asked for refuses the call
-pub refused_called : (d : Direction) (l : Lent) (p q : LentStretch) (o : ℤ) (room : ℕ) (r : Refusal) → DoneAnswer.Refused r ≡ first_cause (stretch_causes d l p q)
+pub refused_called : (d : Direction) (l : Lent) (p q : LentStretch) (o : ℤ) (room : ℕ) (r : Refusal) → Err r ≡ first_cause (stretch_causes d l p q)
     → no_fit_call d l p q o room ≡ refused r
 unfolding no_fit_call stretch_causes
 refused_called d l p q o room r e =

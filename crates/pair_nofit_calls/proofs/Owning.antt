@@ -1,4 +1,5 @@
 -- A lent stretch is the piece's own exactly when comparing it with the piece's strips ends at its end. Assumes nothing.
+use Rattle.std.specs.Prelude.{Some, None}
 use Rattle.list_laws.proofs.Kit.{◌∙◌, ◌≡◌, ap, refl, sym, Bool, false, true, List, map, ◌+◌, ◌<◌, ℕ, arith, eqb, ltb, length, length-map, take_all, eq-eqb}
 use Rattle.list_laws.proofs.Kit.{eqb-true, ltb-true}
 use Rattle.model.specs.Strip.{Strip}
@@ -8,7 +9,6 @@ use Rattle.model.specs.Calls.{LentStretch, known}
 use Rattle.list_laws.proofs.Tests.{and_left, same_tests, fails, clash}
 use Rattle.list_laws.proofs.Equal.{same_entries_lem}
 use Rattle.strip_scan.specs.Compare.{stand_in, compared_by, compared}
-use Rattle.strip_scan.specs.declared.compare.Compared.TheVariants.{Until, Unlike}
 
 module _ (ts : List Strip) (store : List (List ℕ)) where
   -- a store as long as the strips is compared whole
@@ -18,26 +18,26 @@ module _ (ts : List Strip) (store : List (List ℕ)) where
   same_long : same_entries store (map strip_entry ts) ≡ true → length store ≡ length ts
   same_long e = ap length (same_entries_lem store (map strip_entry ts) e) ∙ length-map ts strip_entry
 
-  unlike_by : (b : Bool) → stand_in ts store 0 ≡ b → Unlike ≡ compared_by b (0 + length ts) → stand_in ts store 0 ≡ false
-  unlike_by true h e = let z : ◌≡◌ {A = ℕ} 0 1 = cc in absurd (omega arith)
-  unlike_by false h e = h
+  none_by : (b : Bool) → stand_in ts store 0 ≡ b → None ≡ compared_by b (0 + length ts) → stand_in ts store 0 ≡ false
+  none_by true h e = absurd (cc)
+  none_by false h e = h
 
-  until_by : (b : Bool) (end : ℕ) → stand_in ts store 0 ≡ b → Until end ≡ compared_by b (0 + length ts) → (stand_in ts store 0 ≡ true) × (end ≡ 0 + length ts)
-  until_by true end h e = (h, cc)
-  until_by false end h e = let z : ◌≡◌ {A = ℕ} 0 1 = cc in absurd (omega arith)
+  some_by : (b : Bool) (end : ℕ) → stand_in ts store 0 ≡ b → Some end ≡ compared_by b (0 + length ts) → (stand_in ts store 0 ≡ true) × (end ≡ 0 + length ts)
+  some_by true end h e = (h, cc)
+  some_by false end h e = absurd (cc)
 
   -- strips that do not stand there are not the stretch
-  pub unlike_own : Unlike ≡ compared ts store 0 → false ≡ same_entries store (map strip_entry ts)
+  pub none_own : None ≡ compared ts store 0 → false ≡ same_entries store (map strip_entry ts)
   unfolding compared
-  unlike_own e =
-      let f : stand_in ts store 0 ≡ false = unlike_by (stand_in ts store 0) refl e in
+  none_own e =
+      let f : stand_in ts store 0 ≡ false = none_by (stand_in ts store 0) refl e in
       sym (fails (same_entries store (map strip_entry ts)) (λ h. clash (stand_whole (same_long h) ∙ h) f))
 
   -- strips that stand there are the stretch where it ends with them
-  pub until_own : (end : ℕ) → Until end ≡ compared ts store 0 → eqb end (length store) ≡ same_entries store (map strip_entry ts)
+  pub some_own : (end : ℕ) → Some end ≡ compared ts store 0 → eqb end (length store) ≡ same_entries store (map strip_entry ts)
   unfolding compared
-  until_own end e =
-      let f = until_by (stand_in ts store 0) end refl e in
+  some_own end e =
+      let f = some_by (stand_in ts store 0) end refl e in
       same_tests (eqb end (length store)) (same_entries store (map strip_entry ts))
       (λ h. let n : length store ≡ length ts = omega (arith, eqb-true end (length store) h, f.1) in sym (stand_whole n) ∙ f.0)
       (λ h. eq-eqb end (length store) (omega (arith, f.1, same_long h)))

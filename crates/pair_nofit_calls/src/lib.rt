@@ -14,12 +14,11 @@ ghost use Rattle.pair_nofit_calls.specs.Lines.{line_outcome, line_after, lent_st
 
 use layout_places::known;
 use model::{
-    ColumnOffset, Direction, DoneAnswer, JobSize, NumberAnswer, OFFSET_BOUND, PieceEntry,
-    RowOffset, StripEntry, Turn, plain_refusal, refused,
+    ColumnOffset, Direction, JobSize, OFFSET_BOUND, PieceEntry, Refusal, RowOffset, StripEntry,
+    Turn, plain_refusal, refused,
 };
 use pair_overlap::Corner;
 use pair_runs::{OFFSET_COUNT, down, put_runs, up};
-use strip_scan::compare::Compared;
 
 // How many words have a bit for each offset of a no-fit line.
 const OFFSET_WORDS: usize = OFFSET_COUNT / 64 + 1;
@@ -38,7 +37,7 @@ fn put_line(
     gap: u32,
     offset: i32,
     out: &mut [[i32; 2]],
-) -> NumberAnswer
+) -> Result<u64, Refusal>
     requires fact_1 { Ordered a.now }
     requires fact_2 { Ordered b.now }
     requires fact_3 { gap ≤ gap_bound }
@@ -58,9 +57,9 @@ fn put_line(
     let needed = put_runs(&marks, &mut out[..0]);
     let short = out.len() < needed;
     if short {
-        return NumberAnswer::Refused(plain_refusal(7));
+        return Err(plain_refusal(7));
     }
-    NumberAnswer::Number(put_runs(&marks, out) as u64)
+    Ok(put_runs(&marks, out) as u64)
 }
 
 // The stretch is that of the piece in the turn.
@@ -76,7 +75,7 @@ fn is_own(
     ensures { (size : JobSize) → result ≡ stretch_well direction (job_of (lent_by size table.now pixels.now)) (lent_stretch i turn stretch.now) }
 {
     let start = job_check::pixel_start(table, i);
-    let Compared::Until(end) = strip_scan::compare::compare_piece(
+    let Some(end) = strip_scan::compare::compare_piece(
         table, pixels, i, start, turn, direction, stretch, 0,
     ) else {
         return false;
@@ -94,7 +93,7 @@ fn stretch_causes(
     second: PieceInTurn,
     b: &[StripEntry],
     direction: Direction,
-) -> DoneAnswer
+) -> Result<(), Refusal>
     ensures { result ≡ first_cause (stretch_causes direction (lent_by size table.now pixels.now) (lent_stretch first.piece first.turn a.now) (lent_stretch second.piece second.turn b.now)) }
 {
     if !job_check::check_job(size, table, pixels) {
@@ -116,7 +115,7 @@ fn stretch_causes(
     if !is_own(table, pixels, k, k_turn, direction, b) {
         return refused(8);
     }
-    DoneAnswer::Done
+    Ok(())
 }
 
 // The no-fit line in a direction of two pieces in their turns, at an offset across it.
@@ -131,17 +130,13 @@ fn no_fit(
     direction: Direction,
     offset: i32,
     out: &mut [[i32; 2]],
-) -> NumberAnswer
+) -> Result<u64, Refusal>
     ensures answer { result ≡ count_answer (no_fit_call direction (lent_by size table.now pixels.now) (lent_stretch first.piece first.turn a.now) (lent_stretch second.piece second.turn b.now) offset (length out.old)) }
     ensures memory { out.new ≡ runs_after out.old (no_fit_call direction (lent_by size table.now pixels.now) (lent_stretch first.piece first.turn a.now) (lent_stretch second.piece second.turn b.now) offset (length out.old)) }
 {
-    match stretch_causes(size, table, pixels, first, a, second, b, direction) {
-        DoneAnswer::Refused(refusal) => NumberAnswer::Refused(refusal),
-        DoneAnswer::Done => {
-            let gap = size.gap as u32;
-            put_line(a, b, gap, offset, out)
-        }
-    }
+    stretch_causes(size, table, pixels, first, a, second, b, direction)?;
+    let gap = size.gap as u32;
+    put_line(a, b, gap, offset, out)
 }
 
 // The no-fit row of two pieces in their turns at a row offset, from their row strips: the column offsets at which they conflict.
@@ -155,10 +150,10 @@ pub fn no_fit_row(
     b: &[StripEntry],
     offset: RowOffset,
     out: &mut [[i32; 2]],
-) -> NumberAnswer
+) -> Result<u64, Refusal>
     ensures answer { result ≡ count_answer (no_fit_call Direction.Horizontal (lent_by size table.now pixels.now) (lent_stretch first.piece first.turn a.now) (lent_stretch second.piece second.turn b.now) offset.0 (length out.old)) }
     ensures memory { out.new ≡ runs_after out.old (no_fit_call Direction.Horizontal (lent_by size table.now pixels.now) (lent_stretch first.piece first.turn a.now) (lent_stretch second.piece second.turn b.now) offset.0 (length out.old)) }
-    ensures offsets { (n : ℕ) → result ≡ NumberAnswer.Number n → OffsetsWithin size.gap n out.new }
+    ensures offsets { (n : ℕ) → result ≡ Ok n → OffsetsWithin size.gap n out.new }
 {
     no_fit(
         size,
@@ -185,10 +180,10 @@ pub fn no_fit_column(
     b: &[StripEntry],
     offset: ColumnOffset,
     out: &mut [[i32; 2]],
-) -> NumberAnswer
+) -> Result<u64, Refusal>
     ensures answer { result ≡ count_answer (no_fit_call Direction.Vertical (lent_by size table.now pixels.now) (lent_stretch first.piece first.turn a.now) (lent_stretch second.piece second.turn b.now) offset.0 (length out.old)) }
     ensures memory { out.new ≡ runs_after out.old (no_fit_call Direction.Vertical (lent_by size table.now pixels.now) (lent_stretch first.piece first.turn a.now) (lent_stretch second.piece second.turn b.now) offset.0 (length out.old)) }
-    ensures offsets { (n : ℕ) → result ≡ NumberAnswer.Number n → OffsetsWithin size.gap n out.new }
+    ensures offsets { (n : ℕ) → result ≡ Ok n → OffsetsWithin size.gap n out.new }
 {
     no_fit(
         size,

@@ -5,7 +5,6 @@
 -- Assumes nothing.
 use Rattle.list_laws.proofs.Kit.{◌∙◌, ◌≡◌, ap, subst, sym, ◌&&◌, false, not, true, ◌⊎◌, inl, inr, ⊎_elim, List, ◌+◌, ◌-◌, ◌*◌, ◌<◌, ◌≤◌, min, ℕ, arith}
 use Rattle.list_laws.proofs.Kit.{by_contra, eq-or-lt_of_le, eqb, leb, ltb, length, eq-eqb, eqb-true, le-leb, leb-true, lt-ltb, ltb-true}
-use Rattle.model.specs.Overlap.{within}
 use Rattle.model.specs.Piece.{gap_bound}
 use Rattle.model.specs.Strip.{Strip}
 use Rattle.list_laws.proofs.Firsts.{first_found, first_unique, first_cut}

@@ -4,12 +4,11 @@
 // one distance after another. The contracts speak of the lent lists; proofs/Shapes.antt says what they come to for the strips of a pixel set.
 #![tactic(auto)]
 
-ghost use Rattle.std.specs.Prelude.{◌≡◌, ◌+◌, ◌<◌, ◌≤◌, min, length};
+ghost use Rattle.std.specs.Prelude.{◌≡◌, ◌<◌, ◌≤◌, length};
 ghost use Rattle.model.specs.Piece.{gap_bound};
 ghost use Rattle.pair_overlap.specs.Meet.{strip_at, base_of, Ordered, Near, NearShifted, shift_bound, SpanOf, Skipped, WalkBegun, Slid, ClearStretch, NextLine, clear_below, depth_below};
 
 use model::StripEntry;
-use whole_numbers::wide;
 
 // How far the begin of a line lies from that of the next: more than any place along a line.
 const LINE_STEP: u32 = 65536;
@@ -52,16 +51,6 @@ pub struct Shifts {
     pub end: u32,
 }
 
-// The lesser of two numbers.
-pub fn lesser(x: u32, y: u32) -> u32
-    ensures { result ≡ min x y }
-{
-    if x < y {
-        return x;
-    }
-    y
-}
-
 // A corner's part of a place in that order.
 fn base(u: Corner) -> u32
     requires { NearShifted u }
@@ -75,10 +64,10 @@ fn span_at(s: &[StripEntry], i: usize, from: u32, spread: u32) -> Span
     requires { (i < length s.now) × (from < 2000000000) × (spread ≤ gap_bound) }
     ensures { SpanOf (strip_at s.now i) from spread result }
 {
-    let begin = wide(s[i][0]) * LINE_STEP + wide(s[i][1]) + from;
+    let begin = u32::from(s[i][0]) * LINE_STEP + u32::from(s[i][1]) + from;
     Span {
         begin,
-        end: begin + wide(s[i][2]) + spread,
+        end: begin + u32::from(s[i][2]) + spread,
     }
 }
 
@@ -90,6 +79,7 @@ fn skip(s: &[StripEntry], from: u32, place: u32) -> usize
     ensures { Skipped s.now from place result }
 {
     let mut i = 0;
+    // A while: each turn passes as many strips as lines are missing.
     while i < s.len() {
         let p = span_at(s, i, from, 0);
         if place < p.begin {
@@ -152,6 +142,7 @@ fn slide(a: &[StripEntry], u: Corner, b: &[StripEntry], v: Corner, gap: u32, lim
     let mut room = limit - 1;
     let mut i = start.first;
     let mut j = start.second;
+    // A while: it walks two stretches at once, and a turn goes on in one of them.
     while i < a.len() {
         if b.len() <= j {
             return Leeway { shift: t, room };
@@ -161,7 +152,7 @@ fn slide(a: &[StripEntry], u: Corner, b: &[StripEntry], v: Corner, gap: u32, lim
         if p.end <= q.begin {
             i += 1;
         } else if q.end <= p.begin {
-            room = lesser(room, p.begin - q.end);
+            room = room.min(p.begin - q.end);
             j += 1;
         } else {
             t += p.end - q.begin;
@@ -207,6 +198,7 @@ pub fn clear_stretch(
     let mut room = bound;
     let mut k = 0;
     let mut left = lines;
+    // A while: a turn either shifts the second piece on by what its walk asks for, or goes on to the next line.
     while r < bound {
         let raised = Corner {
             along: u.along,
@@ -218,7 +210,7 @@ pub fn clear_stretch(
         };
         let s = slide(a, raised, b, w, gap, bound - r);
         if s.shift == 0 {
-            room = lesser(room, s.room);
+            room = room.min(s.room);
             left -= 1;
             if left == 0 {
                 return Shifts {

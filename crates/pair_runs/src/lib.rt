@@ -10,7 +10,6 @@ ghost use Rattle.bit_laws.specs.Bit.{bit_in};
 ghost use Rattle.pair_runs.specs.Runs.{offset_count, farthest, Sought, NextPlace, Put};
 
 use model::OFFSET_BOUND;
-use whole_numbers::smaller;
 
 // How many offsets a no-fit line has.
 pub const OFFSET_COUNT: usize = 2 * (OFFSET_BOUND as usize) + 1;
@@ -90,10 +89,11 @@ fn next_place(marks: &[u64], k: usize, bit: bool) -> usize
     ensures { NextPlace marks.now bit k result }
 {
     let mut p = k;
+    // A while: it may begin within a word, and each turn goes on at the begin of the next one.
     while p < OFFSET_COUNT {
         let left = sought(marks[p / 64], bit) >> (p % 64);
         if left != 0 {
-            return smaller(p + (u64::trailing_zeros(left) as usize), OFFSET_COUNT);
+            return (p + u64::trailing_zeros(left) as usize).min(OFFSET_COUNT);
         }
         p = (p / 64 + 1) * 64;
     }
@@ -108,6 +108,7 @@ pub fn put_runs(marks: &[u64], out: &mut [[i32; 2]]) -> usize
 {
     let mut at = 0;
     let mut k = 0;
+    // A while: each turn goes on where the run that it put ends.
     while k < OFFSET_COUNT {
         let first = next_place(marks, k, true);
         let end = next_place(marks, first, false);

@@ -13,7 +13,7 @@ ghost use Rattle.pair_slide.specs.Meeting.{meets_below};
 ghost use Rattle.pair_slide.specs.Boxes.{OnSheet, BoxOf};
 
 use model::StripEntry;
-use pair_overlap::{Corner, lesser};
+use pair_overlap::Corner;
 
 // The most that one search for clear shifts goes to.
 const SHIFT_BOUND: u32 = 1024;
@@ -36,12 +36,13 @@ pub fn meets_below(
     ensures { result ≡ meets_below gap a.now u b.now v bound }
 {
     let mut r = 0;
+    // A while: each turn passes the stretch of shifts that its search found clear.
     while r < bound {
         let w = Corner {
             along: v.along + r,
             across: v.across,
         };
-        let ahead = lesser(bound - r, SHIFT_BOUND);
+        let ahead = (bound - r).min(SHIFT_BOUND);
         let s = pair_overlap::clear_stretch(a, u, b, w, gap, ahead);
         if s.first != 0 {
             return r;

@@ -8,19 +8,12 @@ ghost use Rattle.model.specs.Calls.{with_lock};
 
 use model::PieceEntry;
 
-// A byte as a count.
-fn wide(x: u8) -> usize
-    ensures { (result ≡ x) × (result ≤ 255) }
-{
-    x as usize
-}
-
 // The columns of piece i's box.
 pub fn columns_of(table: &[PieceEntry], i: usize) -> usize
     requires { i < length table.now }
     ensures { (result ≡ entry_columns table.now i) × (result ≤ 255) }
 {
-    wide(table[i][0])
+    usize::from(table[i][0])
 }
 
 // The rows of piece i's box.
@@ -28,7 +21,7 @@ pub fn rows_of(table: &[PieceEntry], i: usize) -> usize
     requires { i < length table.now }
     ensures { (result ≡ entry_rows table.now i) × (result ≤ 255) }
 {
-    wide(table[i][1])
+    usize::from(table[i][1])
 }
 
 // The sum of the turns allowed to piece i.

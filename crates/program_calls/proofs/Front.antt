@@ -6,7 +6,7 @@ use Rattle.model.specs.JobText.{read_job}
 use Rattle.model.specs.declared.JobSize.{JobSize}
 use Rattle.model.specs.declared.Refusal.{Refusal}
 use Rattle.job_calls.specs.Reading.{read_answer, Leaves}
-use Rattle.job_calls.specs.declared.JobAnswer.{JobAnswer}
+use Rattle.std.specs.Prelude.{Result, Ok, Err}
 use Rattle.text_laws.proofs.JobRead.{JustRead, job_read_well, job_read_just}
 use Rattle.call_laws.specs.Reading.{FrontRead}
 use Rattle.call_laws.proofs.Reading.{front_given}
@@ -19,13 +19,13 @@ record Told (o : Outcome Lent) (size : JobSize) : Type 0 where
   gives : o ≡ given job
   numbers : size ≡ job.size
 
-told : (o : Outcome Lent) (size : JobSize) → JobAnswer.Read size ≡ read_answer o → Told o size
-told (refused r) size e = let z : ◌≡◌ {A = ℕ} 0 1 = cc in absurd (omega arith)
+told : (o : Outcome Lent) (size : JobSize) → Ok size ≡ read_answer o → Told o size
+told (refused r) size e = cc
 told (given k) size e = record { job = k; gives = refl; numbers = cc }
 
-refusal_told : (o : Outcome Lent) (r : Refusal) → JobAnswer.Refused r ≡ read_answer o → o ≡ refused r
+refusal_told : (o : Outcome Lent) (r : Refusal) → Err r ≡ read_answer o → o ≡ refused r
 refusal_told (refused s) r e = cc
-refusal_told (given k) r e = let z : ◌≡◌ {A = ℕ} 0 1 = cc in absurd (omega arith)
+refusal_told (given k) r e = cc
 
 -- ── the front ──
 
@@ -68,12 +68,12 @@ module _ (size : JobSize) (table : List (List ℕ)) (pixels : List ℕ) (k : Len
     front_bytes = rw (front_area_lem, bytes)
 
 -- buffers of 64 entries and 65,536 bytes, before and after a reading
-module _ (text : List ℕ) (table lastTable : List (List ℕ)) (store lastStore : List ℕ) (r : JobAnswer) (tableFits : length table ≡ piece_bound)
+module _ (text : List ℕ) (table lastTable : List (List ℕ)) (store lastStore : List ℕ) (r : Result JobSize Refusal) (tableFits : length table ≡ piece_bound)
     (store_fits : length store ≡ area_bound) (sameTable : length lastTable ≡ length table) (same_store : length lastStore ≡ length store)
     (h : Leaves r table lastTable store lastStore (read_job text (length table) (length store)))
   where
     -- a job that was read
-    pub front_read : (size : JobSize) → r ≡ JobAnswer.Read size → Front (read_job text piece_bound area_bound) size lastTable lastStore
+    pub front_read : (size : JobSize) → r ≡ Ok size → Front (read_job text piece_bound area_bound) size lastTable lastStore
     front_read size e =
         let t : Told (read_job text (length table) (length store)) size = told (read_job text (length table) (length store)) size (sym e ∙ h.answers) in
         let k : Lent = t.job in
@@ -96,7 +96,7 @@ module _ (text : List ℕ) (table lastTable : List (List ℕ)) (store lastStore 
         }
 
     -- a job that was refused
-    pub front_refused : (q : Refusal) → r ≡ JobAnswer.Refused q → read_job text piece_bound area_bound ≡ refused q
+    pub front_refused : (q : Refusal) → r ≡ Err q → read_job text piece_bound area_bound ≡ refused q
     front_refused q e =
         same_reading text table store tableFits store_fits ∙ refusal_told (read_job text (length table) (length store)) q (sym e ∙ h.answers)
 

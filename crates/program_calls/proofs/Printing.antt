@@ -1,4 +1,5 @@
 -- What stands in the output buffer and in the workspace in the end. Assumes nothing.
+use Rattle.std.specs.Prelude.{Result, Ok, Err}
 use Rattle.list_laws.proofs.Kit.{◌∙◌, ◌≡◌, ap, refl, Bool, false, true, List, [], ◌++◌, ◌∷◌, ◌<◌, ◌≤◌, ℕ, arith, ltb, drop, length, length-append}
 use Rattle.list_laws.proofs.Kit.{length-drop, length-take-le, take, take_at, le-ltb, lt-ltb, ltb-true}
 use Rattle.model.specs.Lent.{Lent}
@@ -9,7 +10,6 @@ use Rattle.model.specs.Calls.{text_after}
 use Rattle.model.specs.Program.{printed, program_text, program_call}
 use Rattle.list_laws.proofs.Stores.{sets_filled}
 use Rattle.model.specs.Answers.{count_answer}
-use Rattle.model.specs.declared.NumberAnswer.{NumberAnswer}
 use Rattle.layout_write_calls.specs.Written.{Written}
 use Rattle.program_text.specs.Output.{output_bound}
 use Rattle.call_laws.specs.Workspaces.{LeftFree}
@@ -41,32 +41,32 @@ front_written before bytes most next after h w =
     ap (take next) (w.memory ∙ sets_filled before bytes (omega arith)) ∙ take_at bytes _ next (omega arith)
 
 -- the answer and the buffer of the call, where what the program prints fits 4,096 bytes
-abbrev pub TextLeaves : List ℕ → List ℕ → NumberAnswer → List ℕ → Type 0
+abbrev pub TextLeaves : List ℕ → List ℕ → (Result ℕ Refusal) → List ℕ → Type 0
 TextLeaves input before r after =
     (r ≡ count_answer (program_call input (length before)))
     × ((after ≡ text_after before (program_call input (length before))) × (length (program_text input) ≤ output_bound))
 
 -- a buffer that the text does not fit is refused and left as it is
 pub leaves_short : (input before : List ℕ) → length before < length (program_text input) → length (program_text input) ≤ output_bound
-    → TextLeaves input before (NumberAnswer.Refused (plain_refusal wrong_length)) before
+    → TextLeaves input before (Err (plain_refusal wrong_length)) before
 unfolding program_call unless
 leaves_short input before h few =
     (rw (lt-ltb (length before) (length (program_text input)) h), (rw (lt-ltb (length before) (length (program_text input)) h), few))
 
 -- one that it fits has it at the front
 pub leaves_text : (input before : List ℕ) → length (program_text input) ≤ length before → length (program_text input) ≤ output_bound
-    → TextLeaves input before (NumberAnswer.Number (length (program_text input))) (filled (program_text input) before)
+    → TextLeaves input before (Ok (length (program_text input))) (filled (program_text input) before)
 unfolding program_call unless
 leaves_text input before h few = (rw (le-ltb (length before) (length (program_text input)) h), (rw (le-ltb (length before) (length (program_text input)) h), few))
 
 -- the same by a count and a buffer that are so
 pub leaves_written : (input before : List ℕ) (k : ℕ) (after : List ℕ) → k ≡ length (program_text input) → after ≡ filled (program_text input) before
-    → k ≤ length before → k ≤ output_bound → TextLeaves input before (NumberAnswer.Number k) after
+    → k ≤ length before → k ≤ output_bound → TextLeaves input before (Ok k) after
 leaves_written input before k after e m h few =
     let fits : length (program_text input) ≤ length before = omega arith in
     let short : length (program_text input) ≤ output_bound = omega arith in
     let text = leaves_text input before fits short in
-    (ap NumberAnswer.Number e ∙ text.0, (m ∙ text.1.0, short))
+    (ap Ok e ∙ text.0, (m ∙ text.1.0, short))
 
 -- ── the workspace ──
 
@@ -105,12 +105,12 @@ workspace_left input room old written used words same few =
 
 -- how many bytes are told, by the test of the buffer
 count_step : (t : Bool) (r : Refusal) (text : List ℕ) (k : ℕ)
-    → NumberAnswer.Number k ≡ count_answer {A = ℕ} (elim t as (λ _. Outcome (List ℕ)) [ true ↦ refused r | false ↦ given text ]) → k ≡ length text
+    → Ok k ≡ count_answer {A = ℕ} (elim t as (λ _. Outcome (List ℕ)) [ true ↦ refused r | false ↦ given text ]) → k ≡ length text
 count_step true r text k e = let z : ◌≡◌ {A = ℕ} 0 1 = cc in absurd (omega arith)
 count_step false r text k e = cc
 
 -- they are no more than the program prints
-pub count_fits : (input : List ℕ) (room k : ℕ) → NumberAnswer.Number k ≡ count_answer (program_call input room) → length (program_text input) ≤ output_bound
+pub count_fits : (input : List ℕ) (room k : ℕ) → Ok k ≡ count_answer (program_call input room) → length (program_text input) ≤ output_bound
     → k ≤ output_bound
 unfolding program_call unless
 count_fits input room k e h =

@@ -1,4 +1,5 @@
 -- The program's run as the guided run's call gives it: from the start layout, by weights 1. Assumes nothing.
+use Rattle.std.specs.Prelude.{Ok, Err}
 use Rattle.list_laws.proofs.Kit.{◌∙◌, ◌≡◌, ap, sym, true, List, [], ◌∷◌, ◌≤◌, ℕ, arith, length, length-replicate, replicate, take, length-take-le}
 use Rattle.model.specs.Layout.{Job, Layout, pairs, unit_weights, used_length}
 use Rattle.model.specs.Buffer.{entries_of, layout_of}
@@ -18,7 +19,6 @@ use Rattle.layout_write_calls.specs.Written.{Written}
 use Rattle.layout_write_calls.proofs.Sequel.{written_then}
 use Rattle.run_guided_calls.specs.Answers.{guided_answer}
 use Rattle.run_guided_calls.specs.declared.RunTotals.{RunTotals}
-use Rattle.run_guided_calls.specs.declared.GuidedAnswer.{GuidedAnswer}
 use Rattle.program_text.specs.Output.{output_bound}
 use Rattle.program_calls.specs.Runs.{Gives, run_with}
 use Rattle.program_calls.proofs.Printing.{written_more}
@@ -48,9 +48,9 @@ run_given l es ws well e f = rw (e, f) (program_run_given l well)
 
 module _ (o : Outcome Guided) (g : Guided) (e : o ≡ given g) where
   -- what it answers and leaves
-  pub run_gives : (r : RunTotals) (before after : List (List ℕ)) → GuidedAnswer.Ran r ≡ guided_answer o → after ≡ best_after_run before o → Gives r after g
+  pub run_gives : (r : RunTotals) (before after : List (List ℕ)) → Ok r ≡ guided_answer o → after ≡ best_after_run before o → Gives r after g
   run_gives r before after a m =
-      let same : GuidedAnswer.Ran r ≡ guided_answer (given g) = a ∙ ap guided_answer e in
+      let same : Ok r ≡ guided_answer (given g) = a ∙ ap guided_answer e in
       let is : r ≡ record { sum = g.sum; made = g.made; moves = g.moves } = cc in
       record {
         sum = ap (λ (x : RunTotals). x.sum) is;
@@ -60,9 +60,9 @@ module _ (o : Outcome Guided) (g : Guided) (e : o ≡ given g) where
       }
 
   -- it does not refuse
-  pub run_not_refused : (r : Refusal) → GuidedAnswer.Refused r ≡ guided_answer o → ⊥
+  pub run_not_refused : (r : Refusal) → Err r ≡ guided_answer o → ⊥
   run_not_refused r a =
-      let same : GuidedAnswer.Refused r ≡ guided_answer (given g) = a ∙ ap guided_answer e in
+      let same : Err r ≡ guided_answer (given g) = a ∙ ap guided_answer e in
       let z : ◌≡◌ {A = ℕ} 0 1 = cc in
       omega arith
 

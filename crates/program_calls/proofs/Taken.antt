@@ -1,4 +1,5 @@
 -- Calls on a job that passes its check and on a valid layout are not refused. Assumes nothing.
+use Rattle.std.specs.Prelude.{Ok, Err}
 use Rattle.list_laws.proofs.Kit.{◌∙◌, ◌≡◌, ap, sym, not, true, List, ◌≤◌, ℕ, zero-add, arith, length, length-map, eq-eqb, le-ltb}
 use Rattle.model.specs.Layout.{Layout, used_length}
 use Rattle.model.specs.Buffer.{placement_of, entries_of, layout_of}
@@ -17,7 +18,6 @@ use Rattle.descent_laws.specs.LentLayout.{Laid}
 use Rattle.descent_laws.proofs.Lent.{lent_demand3}
 use Rattle.call_laws.proofs.Layouts.{BufferPasses, valid_buffer}
 use Rattle.model.specs.Answers.{number_answer, count_answer}
-use Rattle.model.specs.declared.NumberAnswer.{NumberAnswer}
 use Rattle.text_laws.proofs.Causes.{none_then}
 use Rattle.causes.proofs.Passed.{layout_laid}
 use Rattle.layout_write_calls.specs.Written.{Written}
@@ -47,15 +47,15 @@ module _ (l : Lent) (es : List (List ℕ)) (none : NoCause (layout_causes l es))
   used_given = unless_given (layout_causes l es) (used_length (job_of l) (layout_of es)) none
 
   -- so the answer is that length
-  pub used_taken : (n : ℕ) → NumberAnswer.Number n ≡ number_answer (used_length_call l es) → n ≡ used_length (job_of l) (layout_of es)
+  pub used_taken : (n : ℕ) → Ok n ≡ number_answer (used_length_call l es) → n ≡ used_length (job_of l) (layout_of es)
   used_taken n e =
-      let same : NumberAnswer.Number n ≡ number_answer (given (used_length (job_of l) (layout_of es))) = e ∙ ap number_answer used_given in
+      let same : Ok n ≡ number_answer (given (used_length (job_of l) (layout_of es))) = e ∙ ap number_answer used_given in
       cc
 
   -- and no refusal
-  pub used_not_refused : (r : Refusal) → NumberAnswer.Refused r ≡ number_answer (used_length_call l es) → ⊥
+  pub used_not_refused : (r : Refusal) → Err r ≡ number_answer (used_length_call l es) → ⊥
   used_not_refused r e =
-      let same : NumberAnswer.Refused r ≡ number_answer (given (used_length (job_of l) (layout_of es))) = e ∙ ap number_answer used_given in
+      let same : Err r ≡ number_answer (given (used_length (job_of l) (layout_of es))) = e ∙ ap number_answer used_given in
       let z : ◌≡◌ {A = ℕ} 0 1 = cc in
       omega arith
 
@@ -80,11 +80,11 @@ module _ (l : Lent) (es : List (List ℕ)) (none : NoCause (layout_causes l es))
         none_then (layout_causes l es) _ _ none ∙ rw (le-ltb _ _ fits)
 
     -- so the text is written
-    pub text_taken : (n : ℕ) (after : List ℕ) → NumberAnswer.Number n ≡ count_answer (write_layout_call l es (length before))
+    pub text_taken : (n : ℕ) (after : List ℕ) → Ok n ≡ count_answer (write_layout_call l es (length before))
         → after ≡ text_after before (write_layout_call l es (length before)) → Written before 0 (layout_text (job_of l) (layout_of es)) 1755 n after
     text_taken n after e m =
         let short = text_short in
-        let same : NumberAnswer.Number n ≡ count_answer (given (layout_text (job_of l) (layout_of es))) = e ∙ ap count_answer text_given in
+        let same : Ok n ≡ count_answer (given (layout_text (job_of l) (layout_of es))) = e ∙ ap count_answer text_given in
         let end : n ≡ length (layout_text (job_of l) (layout_of es)) = cc in
         record {
           end = end ∙ sym (zero-add _);
@@ -93,8 +93,8 @@ module _ (l : Lent) (es : List (List ℕ)) (none : NoCause (layout_causes l es))
         }
 
     -- and the answer is no refusal
-    pub text_not_refused : (r : Refusal) → NumberAnswer.Refused r ≡ count_answer (write_layout_call l es (length before)) → ⊥
+    pub text_not_refused : (r : Refusal) → Err r ≡ count_answer (write_layout_call l es (length before)) → ⊥
     text_not_refused r e =
-        let same : NumberAnswer.Refused r ≡ count_answer (given (layout_text (job_of l) (layout_of es))) = e ∙ ap count_answer text_given in
+        let same : Err r ≡ count_answer (given (layout_text (job_of l) (layout_of es))) = e ∙ ap count_answer text_given in
         let z : ◌≡◌ {A = ℕ} 0 1 = cc in
         omega arith

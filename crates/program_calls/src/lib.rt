@@ -18,14 +18,12 @@ ghost use Rattle.layout_write_calls.specs.Written.{Written};
 ghost use Rattle.program_text.specs.Output.{output_bound};
 ghost use Rattle.program_calls.specs.Runs.{Gives, run_with, UsedWords};
 
-use job_calls::JobAnswer;
 use layout_places::numbers::pair_count;
 use model::{
-    AREA_BOUND, JobSize, NumberAnswer, PAIR_BOUND, PIECE_BOUND, PieceEntry, PlaceEntry,
-    plain_refusal,
+    AREA_BOUND, JobSize, PAIR_BOUND, PIECE_BOUND, PieceEntry, PlaceEntry, Refusal, plain_refusal,
 };
 use program_text::{put_end_line, put_refusal_line};
-use run_guided_calls::{GuidedAnswer, RunTotals, guided_run};
+use run_guided_calls::{RunTotals, guided_run};
 use text_fields::put_word;
 
 // The most bytes that an input may have.
@@ -46,7 +44,8 @@ fn start_job(size: JobSize, table: &[PieceEntry], pixels: &[u8], layout: &mut [P
     ensures { layout.new ≡ entries_of (program_start (job_of (lent_by size table.now pixels.now))) }
 {
     layout_start_calls::start_of_all(size, table, layout);
-    layout_start_calls::start(size, table, pixels, layout);
+    // The start of all pieces places each inside: no start from it is refused.
+    let _ = layout_start_calls::start(size, table, pixels, layout);
 }
 
 // The run of a job: from the start layout, by weights 1, 20 rounds of budget 1,000. The best layout is left in the layout buffer.
@@ -73,9 +72,9 @@ fn run_job(
         PROGRAM_BUDGET,
         workspace,
     ) {
-        GuidedAnswer::Ran(run) => run,
+        Ok(run) => run,
         // The start layout and weights 1 are valid: this does not happen.
-        GuidedAnswer::Refused(_) => RunTotals {
+        Err(_) => RunTotals {
             sum: 0,
             made: 0,
             moves: 0,
@@ -96,14 +95,11 @@ fn write_run(
     requires fact_2 { output_bound ≤ length text.old }
     ensures { Written text.old 0 (run_text (job_of (lent_by size table.now pixels.now)) (run_with run (layout_of layout.now))) output_bound result text.new }
 {
-    let NumberAnswer::Number(used) = layout_length_calls::used_length(size, table, pixels, layout)
-    else {
+    let Ok(used) = layout_length_calls::used_length(size, table, pixels, layout) else {
         // The layout has no cause of refusal: this does not happen.
         return 0;
     };
-    let NumberAnswer::Number(next) = layout_write_calls::write_layout(
-        size, table, pixels, layout, text,
-    ) else {
+    let Ok(next) = layout_write_calls::write_layout(size, table, pixels, layout, text) else {
         // It has none, and the buffer has room for its text: this does not happen.
         return 0;
     };
@@ -143,8 +139,8 @@ fn read_and_print(input: &[u8], text: &mut [u8], workspace: &mut [u64]) -> usize
     let mut table = [[0u8; 4]; PIECE_BOUND];
     let mut pixels = [0u8; AREA_BOUND];
     match job_calls::read_job(input, &mut table, &mut pixels) {
-        JobAnswer::Refused(refusal) => put_refusal_line(text, refusal),
-        JobAnswer::Read(size) => {
+        Err(refusal) => put_refusal_line(text, refusal),
+        Ok(size) => {
             let count = size.count;
             let entries = &table[..count];
             let area = job_check::pixel_start(entries, count);
@@ -177,7 +173,7 @@ fn words_used(room: usize, words: usize) -> usize
 
 // What the program prints for its input, written to the front of an output buffer, and how many bytes that are: at most 4,096. A buffer
 // that the text does not fit is refused by 7 and left as it is. What is printed does not depend on the workspace, whose words are free after it.
-pub fn print_run(input: &[u8], output: &mut [u8], workspace: &mut [u64]) -> NumberAnswer
+pub fn print_run(input: &[u8], output: &mut [u8], workspace: &mut [u64]) -> Result<u64, Refusal>
     ensures answer { result ≡ count_answer (program_call input.now (length output.old)) }
     ensures memory { output.new ≡ text_after output.old (program_call input.now (length output.old)) }
     ensures workspace { LeftFree (program_call input.now (length output.old)) workspace.old workspace.new }
@@ -188,8 +184,8 @@ pub fn print_run(input: &[u8], output: &mut [u8], workspace: &mut [u64]) -> Numb
     let count = print_text(input, &mut text, &mut workspace[..used]);
     let short = output.len() < count;
     if short {
-        return NumberAnswer::Refused(plain_refusal(7));
+        return Err(plain_refusal(7));
     }
     put_word(output, 0, &text[..count]);
-    NumberAnswer::Number(count as u64)
+    Ok(count as u64)
 }

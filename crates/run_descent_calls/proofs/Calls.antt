@@ -1,4 +1,5 @@
 -- What the call of a descent comes to. Assumes nothing.
+use Rattle.std.specs.Prelude.{Err, Ok, Result}
 use Rattle.list_laws.proofs.Kit.{◌∙◌, ◌≡◌, ap, subst, sym, false, List, ◌≤◌, ℕ, ltb, ltb-false}
 use Rattle.model.specs.Layout.{Layout}
 use Rattle.model.specs.Lent.{Lent, job_of}
@@ -13,19 +14,17 @@ use Rattle.text_laws.proofs.Outcomes.{unless_given}
 use Rattle.descent_laws.specs.Claims.{DescentClaims}
 use Rattle.call_laws.proofs.Runs.{descent_given}
 use Rattle.model.specs.Answers.{first_cause}
-use Rattle.model.specs.declared.DoneAnswer.{DoneAnswer}
 use Rattle.text_laws.proofs.Causes.{refused_alone}
 use Rattle.causes.specs.Asked.{weighted_causes}
 use Rattle.causes.proofs.Asked.{run_asked}
 use Rattle.causes.proofs.Passed.{weighted_passed}
 use Rattle.run_descent.specs.Descents.{descent_of}
-use Rattle.run_descent_calls.specs.declared.DescentAnswer.{DescentAnswer}
 use Rattle.run_descent.specs.declared.Ended.{Ended}
 use Rattle.run_memory.specs.Done.{Descended}
 
 module _ (l : Lent) (es : List (List ℕ)) (ws : List ℕ) (budget : ℕ) where
   -- a cause refuses the descent
-  pub call_refused : (r : Refusal) → DoneAnswer.Refused r ≡ first_cause (weighted_causes l es ws (ltb budget_bound budget) false)
+  pub call_refused : (r : Refusal) → Err r ≡ first_cause (weighted_causes l es ws (ltb budget_bound budget) false)
       → descent_call l es ws budget ≡ refused r
   unfolding descent_call
   call_refused r e =
@@ -50,7 +49,7 @@ module _ (l : Lent) (es : List (List ℕ)) (ws : List ℕ) (budget : ℕ) where
             ∙ ap given done.result
 
         -- what demand 3 claims holds of it
-        pub call_claims : (e : Ended) → DescentAnswer.Ended r ≡ DescentAnswer.Ended e
+        pub call_claims : (e : Ended) → ◌≡◌ {A = Result Ended Refusal} (Ok r) (Ok e)
             → DescentClaims (job_of l) ws budget (layout_of es) (descent_of e (layout_of new))
         call_claims e same =
             let here : r ≡ e = cc in

@@ -16,27 +16,16 @@ ghost use Rattle.run_descent_calls.specs.Answers.{descent_answer};
 
 use causes::weighted_causes;
 use layout_entries::write_entries;
-use model::{BUDGET_BOUND, DoneAnswer, End, JobSize, PAIR_BOUND, PieceEntry, PlaceEntry, Refusal};
+use model::{BUDGET_BOUND, JobSize, PAIR_BOUND, PieceEntry, PlaceEntry, Refusal};
 use run_descent::Ended;
-use run_memory::memory::{Plan, PlanOutcome, with_strips};
-
-// How a descent ended, or why it is refused.
-#[derive(Clone, Copy)]
-pub enum DescentAnswer {
-    Ended(Ended),
-    Refused(Refusal),
-}
+use run_memory::memory::{Alone, with_strips};
 
 // Copies weights.
 fn copy_weights(from: &[u32], to: &mut [u32])
     requires { length to.old ≡ length from.now }
     ensures { to.new ≡ from.now }
 {
-    let mut k = 0;
-    while k < from.len() {
-        to[k] = from[k];
-        k += 1;
-    }
+    to.copy_from_slice(from);
 }
 
 // The descent, over weights of its own: a run's memory takes weights that may be raised.
@@ -56,24 +45,15 @@ fn run_alone(
     let mut own = [0u32; PAIR_BOUND];
     let n = weights.len();
     copy_weights(weights, &mut own[..n]);
-    match with_strips(
+    with_strips(
         size,
         table,
         pixels,
-        Plan::Alone(budget),
+        Alone { budget },
         layout,
         &mut own[..n],
         workspace,
-    ) {
-        PlanOutcome::Alone(ended) => ended,
-        // One descent is planned: this does not happen.
-        PlanOutcome::Rounds(_) => Ended {
-            end: End::Clear,
-            sum: 0,
-            made: 0,
-            moves: 0,
-        },
-    }
+    )
 }
 
 // The descent: 8, 7, 2, 9, 10. The layout buffer holds the layout at the end; a refusal writes nothing. The answer does not depend on the workspace,
@@ -86,25 +66,14 @@ pub fn descent(
     weights: &[u32],
     budget: u32,
     workspace: &mut [u64],
-) -> DescentAnswer
+) -> Result<Ended, Refusal>
     ensures answer { result ≡ descent_answer (descent_call (lent_by size table.now pixels.now) layout.old weights.now budget) }
     ensures memory { layout.new ≡ descent_after layout.old (descent_call (lent_by size table.now pixels.now) layout.old weights.now budget) }
     ensures workspace { LeftFree (descent_call (lent_by size table.now pixels.now) layout.old weights.now budget) workspace.old workspace.new }
-    ensures demand3 { (e : Ended) → result ≡ DescentAnswer.Ended e → DescentClaims (job_of (lent_by size table.now pixels.now)) weights.now budget (layout_of layout.old) (descent_of e (layout_of layout.new)) }
+    ensures demand3 { (e : Ended) → result ≡ Ok e → DescentClaims (job_of (lent_by size table.now pixels.now)) weights.now budget (layout_of layout.old) (descent_of e (layout_of layout.new)) }
 {
-    match weighted_causes(
-        size,
-        table,
-        pixels,
-        layout,
-        weights,
-        BUDGET_BOUND < budget,
-        false,
-    ) {
-        DoneAnswer::Refused(refusal) => DescentAnswer::Refused(refusal),
-        DoneAnswer::Done => {
-            write_entries(layout);
-            DescentAnswer::Ended(run_alone(size, table, pixels, weights, budget, layout, workspace))
-        }
-    }
+    let above = BUDGET_BOUND < budget;
+    weighted_causes(size, table, pixels, layout, weights, above, false)?;
+    write_entries(layout);
+    Ok(run_alone(size, table, pixels, weights, budget, layout, workspace))
 }

@@ -1,5 +1,6 @@
 -- The call of a guided run: its causes are those of a run with a round count and a budget beside the weights, and where none is there the run
 -- is given. Assumes nothing.
+use Rattle.std.specs.Prelude.{Err, Ok, Result}
 use Rattle.list_laws.proofs.Kit.{◌∙◌, ◌≡◌, ap, refl, subst, sym, Bool, ◌||◌, false, not, true, List, ◌≤◌, ℕ, ltb, ltb-false, not-false}
 use Rattle.model.specs.Layout.{Layout}
 use Rattle.model.specs.Guided.{Guided, rounds, guide}
@@ -17,7 +18,6 @@ use Rattle.descent_laws.specs.Claims.{GuidedClaims}
 use Rattle.call_laws.proofs.Runs.{guided_given}
 use Rattle.search_laws.specs.Results.{guided_of}
 use Rattle.model.specs.Answers.{first_cause}
-use Rattle.model.specs.declared.DoneAnswer.{DoneAnswer}
 use Rattle.text_laws.proofs.Causes.{refused_alone}
 use Rattle.causes.specs.Asked.{weighted_causes}
 use Rattle.causes.proofs.Asked.{run_asked}
@@ -25,7 +25,6 @@ use Rattle.causes.proofs.Passed.{weighted_passed}
 use Rattle.run_guided_calls.specs.Answers.{tally_of, numbers_wrong}
 use Rattle.run_rounds.specs.Rounds.{Ran}
 use Rattle.run_guided_calls.specs.declared.RunTotals.{RunTotals}
-use Rattle.run_guided_calls.specs.declared.GuidedAnswer.{GuidedAnswer}
 
 -- three tests in a row, grouped either way
 or_grouped : (a b c : Bool) → ((a || b) || c) ≡ (a || (b || c))
@@ -41,7 +40,7 @@ module _ (l : Lent) (es : List (List ℕ)) (ws : List ℕ) (count budget : ℕ) 
       rw (or_grouped (some_weight_wrong ws) (ltb budget_bound budget) (not (up_to round_bound count))) (sym (run_asked l es _ ws (numbers_wrong count budget)))
 
   -- a cause refuses it
-  pub call_refused : (r : Refusal) → DoneAnswer.Refused r ≡ first_cause (weighted_causes l es ws (numbers_wrong count budget) false)
+  pub call_refused : (r : Refusal) → Err r ≡ first_cause (weighted_causes l es ws (numbers_wrong count budget) false)
       → guided_call l es ws count budget ≡ refused r
   call_refused r e = call_causes_lem ∙ refused_alone (weighted_causes l es ws (numbers_wrong count budget) false) (guide (job_of l) count budget ws (layout_of es)) r e
 
@@ -70,7 +69,7 @@ module _ (l : Lent) (es : List (List ℕ)) (ws : List ℕ) (count budget : ℕ) 
             ∙ ap (λ (g : Guided). given g) ran.result
 
         -- what demand 3 claims holds of it
-        pub call_claims : (told : RunTotals) → GuidedAnswer.Ran run ≡ GuidedAnswer.Ran told
+        pub call_claims : (told : RunTotals) → ◌≡◌ {A = Result RunTotals Refusal} (Ok run) (Ok told)
             → GuidedClaims (job_of l) ws count budget (layout_of es) (rounds (job_of l) count budget ws (layout_of es))
             (guided_of (layout_of best) told.sum raised told.made told.moves)
         call_claims told e =

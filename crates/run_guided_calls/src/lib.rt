@@ -15,8 +15,8 @@ ghost use Rattle.run_guided_calls.specs.Answers.{tally_of, guided_answer, number
 
 use causes::weighted_causes;
 use layout_entries::write_entries;
-use model::{BUDGET_BOUND, DoneAnswer, JobSize, PieceEntry, PlaceEntry, ROUND_BOUND, Refusal};
-use run_memory::memory::{Plan, PlanOutcome, with_strips};
+use model::{BUDGET_BOUND, JobSize, PieceEntry, PlaceEntry, ROUND_BOUND, Refusal};
+use run_memory::memory::with_strips;
 use run_rounds::Terms;
 
 // What a guided run comes to beside the best layout and the new weights: the best layout's plain sum, and the trials and moves of all
@@ -26,13 +26,6 @@ pub struct RunTotals {
     pub sum: u64,
     pub made: u64,
     pub moves: u64,
-}
-
-// A guided run, or why it is refused.
-#[derive(Clone, Copy)]
-pub enum GuidedAnswer {
-    Ran(RunTotals),
-    Refused(Refusal),
 }
 
 // Whether the budget or the round count is out of range.
@@ -62,26 +55,11 @@ fn run_rounds(
     requires fact_2 { InRange terms }
     ensures { Ran (lent_by size table.now pixels.now) layout.old weights.old terms.count terms.budget (tally_of result) layout.new weights.new }
 {
-    match with_strips(
-        size,
-        table,
-        pixels,
-        Plan::Rounds(terms),
-        layout,
-        weights,
-        workspace,
-    ) {
-        PlanOutcome::Rounds(told) => RunTotals {
-            sum: told.sum,
-            made: told.made,
-            moves: told.moves,
-        },
-        // Rounds are planned: this does not happen.
-        PlanOutcome::Alone(_) => RunTotals {
-            sum: 0,
-            made: 0,
-            moves: 0,
-        },
+    let told = with_strips(size, table, pixels, terms, layout, weights, workspace);
+    RunTotals {
+        sum: told.sum,
+        made: told.made,
+        moves: told.moves,
     }
 }
 
@@ -97,30 +75,19 @@ pub fn guided_run(
     rounds: u32,
     budget: u32,
     workspace: &mut [u64],
-) -> GuidedAnswer
+) -> Result<RunTotals, Refusal>
     ensures answer { result ≡ guided_answer (guided_call (lent_by size table.now pixels.now) layout.old weights.old rounds budget) }
     ensures layout { layout.new ≡ best_after_run layout.old (guided_call (lent_by size table.now pixels.now) layout.old weights.old rounds budget) }
     ensures weights { weights.new ≡ weights_after_run weights.old (guided_call (lent_by size table.now pixels.now) layout.old weights.old rounds budget) }
     ensures workspace { LeftFree (guided_call (lent_by size table.now pixels.now) layout.old weights.old rounds budget) workspace.old workspace.new }
-    ensures demand3 { (run : RunTotals) → result ≡ GuidedAnswer.Ran run → GuidedClaims (job_of (lent_by size table.now pixels.now)) weights.old rounds budget (layout_of layout.old) (model.rounds (job_of (lent_by size table.now pixels.now)) rounds budget weights.old (layout_of layout.old)) (guided_of (layout_of layout.new) run.sum weights.new run.made run.moves) }
+    ensures demand3 { (run : RunTotals) → result ≡ Ok run → GuidedClaims (job_of (lent_by size table.now pixels.now)) weights.old rounds budget (layout_of layout.old) (model.rounds (job_of (lent_by size table.now pixels.now)) rounds budget weights.old (layout_of layout.old)) (guided_of (layout_of layout.new) run.sum weights.new run.made run.moves) }
 {
-    match weighted_causes(
-        size,
-        table,
-        pixels,
-        layout,
-        weights,
-        numbers_wrong(rounds, budget),
-        false,
-    ) {
-        DoneAnswer::Refused(refusal) => GuidedAnswer::Refused(refusal),
-        DoneAnswer::Done => {
-            write_entries(layout);
-            let terms = Terms {
-                count: rounds,
-                budget,
-            };
-            GuidedAnswer::Ran(run_rounds(size, table, pixels, terms, layout, weights, workspace))
-        }
-    }
+    let wrong = numbers_wrong(rounds, budget);
+    weighted_causes(size, table, pixels, layout, weights, wrong, false)?;
+    write_entries(layout);
+    let terms = Terms {
+        count: rounds,
+        budget,
+    };
+    Ok(run_rounds(size, table, pixels, terms, layout, weights, workspace))
 }

@@ -104,6 +104,7 @@ pub fn rounds(
     let mut made: u64 = 0;
     let mut moves: u64 = 0;
     let mut left = terms.count;
+    // A while: a round that ends clear leaves none.
     while 0 < left {
         let round = descend(
             run,

@@ -1,11 +1,11 @@
 -- Where a descent stands after a trial, and how large its numbers are. Assumes nothing.
-use Rattle.list_laws.proofs.Kit.{◌∙◌, ◌≡◌, ap, refl, sym, true, some, List, ◌<◌, ◌≤◌, ℕ, add-one, arith, get_or, length, length-map}
+use Rattle.list_laws.proofs.Kit.{◌∙◌, ◌≡◌, ap, sym, true, some, List, ◌<◌, ◌≤◌, ℕ, add-one, arith, get_or, length, length-map}
 use Rattle.model.specs.Piece.{on_line}
 use Rattle.model.specs.Layout.{Job, Layout, piece_sum, weighted_sum}
 use Rattle.model.specs.Lent.{Lent, job_of, lent_well}
 use Rattle.model.specs.Buffer.{layout_of}
 use Rattle.model.specs.Search.{Best}
-use Rattle.model.specs.Descent.{Trial, Progress, Attempt, moved, quiet, proceed, trial_after, trial_line, attempt, no_trial, step}
+use Rattle.model.specs.Descent.{Trial, Attempt, moved, quiet, proceed, trial_after, trial_line, attempt, no_trial, step}
 use Rattle.job_laws.proofs.Checked.{facts}
 use Rattle.call_laws.proofs.Jobs.{lent_boxes_small}
 use Rattle.descent_laws.specs.Claims.{ValidWeights}

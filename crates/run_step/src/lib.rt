@@ -23,17 +23,9 @@ use model::{Column, Line, PieceEntry, PlaceEntry, Placement, Row, StripEntry, Tu
 use run_trials::{Trial, line_of, next_place, trial_at};
 use search_beside::renew_placed;
 use search_bounded::search_below;
-use search_line_sums::Found;
 use search_lines::RunSize;
 use search_sums::row_sum;
 use search_tracks::Mover;
-
-// What a trial comes to: a move, with the piece's pair sum at its new place, or quiet.
-#[derive(Clone, Copy)]
-pub enum Tried {
-    Moved(u32),
-    Quiet,
-}
 
 // Where a descent stands: the weighted sum, the quiet count, trials made, moves, and the place of the trial that comes next.
 #[derive(Clone, Copy)]
@@ -65,7 +57,8 @@ fn place_on(line: Line, turn: Turn, at: u32) -> Placement
     }
 }
 
-// Searches the mover's line for a place below the bound, and moves the piece there if there is one.
+// Searches the mover's line for a place below the bound, and moves the piece there if there is one. Gives the piece's pair sum at its new
+// place, or nothing where it stays.
 fn try_line(
     run: RunSize,
     table: &[PieceEntry],
@@ -79,7 +72,7 @@ fn try_line(
     penalties: &mut [u8],
     lines: &mut [u8],
     maps: &mut [u64],
-) -> Tried
+) -> Option<u32>
     requires fact_1 { LinesReady (lent_by run.size table.now pixels.now) run strips.now starts.now lines.old maps.old }
     requires fact_2 { ValidWeights (job_of (lent_by run.size table.now pixels.now)) weights.now }
     requires fact_3 { Laid (lent_by run.size table.now pixels.now) layout.old }
@@ -90,11 +83,9 @@ fn try_line(
     ensures renewed { PenaltyTable (job_of (lent_by run.size table.now pixels.now)) (layout_of layout.new) run.size.count penalties.new }
     ensures ready { LinesReady (lent_by run.size table.now pixels.now) run strips.now starts.now lines.new maps.new }
 {
-    let Found::At(sum, at) = search_below(
+    let least = search_below(
         run, table, pixels, strips, starts, layout, weights, mover, bound, lines, maps,
-    ) else {
-        return Tried::Quiet;
-    };
+    )?;
     renew_placed(
         run,
         table,
@@ -103,7 +94,7 @@ fn try_line(
         starts,
         layout,
         mover,
-        at as usize,
+        least.at as usize,
         lines,
         maps,
         penalties,
@@ -111,11 +102,11 @@ fn try_line(
     let piece = mover.piece;
     let turn = mover.turn;
     let line = mover.line;
-    layout[piece] = layout_places::entry_of(place_on(line, turn, at));
-    Tried::Moved(sum)
+    layout[piece] = layout_places::entry_of(place_on(line, turn, least.at));
+    Some(least.sum)
 }
 
-// Takes a trial of a piece whose present pair sum is given.
+// Takes a trial of a piece whose present pair sum is given. Gives its pair sum at its new place, or nothing where the trial is quiet.
 fn try_trial(
     run: RunSize,
     table: &[PieceEntry],
@@ -129,7 +120,7 @@ fn try_trial(
     penalties: &mut [u8],
     lines: &mut [u8],
     maps: &mut [u64],
-) -> Tried
+) -> Option<u32>
     requires fact_1 { LinesReady (lent_by run.size table.now pixels.now) run strips.now starts.now lines.old maps.old }
     requires fact_2 { ValidWeights (job_of (lent_by run.size table.now pixels.now)) weights.now }
     requires fact_3 { LaidOut (lent_by run.size table.now pixels.now) layout.old penalties.old }
@@ -215,7 +206,7 @@ pub fn step(
     if still {
         return after_quiet(at, next);
     }
-    let Tried::Moved(found) = try_trial(
+    let Some(found) = try_trial(
         run,
         table,
         pixels,

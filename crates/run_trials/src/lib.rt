@@ -55,19 +55,12 @@ fn code_of(piece: usize, turn: usize, direction: usize) -> u16
     ((piece * 4 + turn) * 2 + direction) as u16
 }
 
-// A number of the list as a larger type.
-fn wide(code: u16) -> usize
-    ensures { result ≡ code }
-{
-    code as usize
-}
-
 // The trial at a place of a list.
 pub fn trial_at(trials: &[u16], at: usize) -> Trial
     requires { at < length trials.now }
     ensures { trial_as result ≡ get_or (trials_of trials.now) at no_trial }
 {
-    let code = wide(trials[at]);
+    let code = usize::from(trials[at]);
     Trial {
         piece: code / 8,
         turn: turn_at(code / 2 % 4),
@@ -125,10 +118,8 @@ pub fn make_trials(size: JobSize, table: &[PieceEntry], store: &mut [u16]) -> us
     ensures few { result ≤ trial_bound }
 {
     let mut count = 0;
-    let mut i = 0;
-    while i < size.count {
+    for i in 0..size.count {
         count = add_piece(table, i, store, count);
-        i += 1;
     }
     count
 }

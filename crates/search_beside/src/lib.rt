@@ -166,10 +166,8 @@ pub fn near_pieces(
     ensures { (pixels : List ℕ) → OnTrack (lent_by size table.now pixels) mover track → NearTold (job_of (lent_by size table.now pixels)) (layout_of layout.now) mover size.count result }
 {
     let mut near = 0;
-    let mut k = 0;
-    while k < size.count {
+    for k in 0..size.count {
         near = near | (near_bit(size, table, layout, mover, track, k) << k);
-        k += 1;
     }
     near
 }
@@ -231,12 +229,10 @@ fn renew_others(
     ensures ready { LinesReady (lent_by run.size table.now pixels.now) run strips.now starts.now lines.new maps.new }
 {
     let count = run.size.count;
-    let mut k = 0;
-    while k < count {
+    for k in 0..count {
         renew_other(
             run, table, pixels, strips, starts, layout, sweep, k, at, lines, maps, penalties,
         );
-        k += 1;
     }
 }
 

@@ -1,5 +1,5 @@
 -- A search as a whole: its track, sums that are 0 at first, and what the least of them is at the end. Assumes nothing.
-use Rattle.list_laws.proofs.Kit.{◌∙◌, ◌≡◌, ap, refl, subst, sym, true, Option, none, some, List, ◌<◌, ◌≤◌, suc, zero, ℕ, arith, get_or, length, length-map}
+use Rattle.list_laws.proofs.Kit.{◌∙◌, ◌≡◌, ap, subst, sym, Option, none, some, List, ◌<◌, ◌≤◌, ℕ, arith, get_or, length, length-map}
 use Rattle.list_laws.proofs.Kit.{replicate, take, dec_lt}
 use Rattle.list_laws.proofs.Lists.{take_repeat}
 use Rattle.search_lines.proofs.Keeping.{cleared_byte}

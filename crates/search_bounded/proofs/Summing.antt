@@ -1,6 +1,6 @@
 -- The sums along a line when one more piece is taken into account: it changes only the sums in its reach, and those need not be exact where
 -- they are at the bound already. Assumes nothing.
-use Rattle.list_laws.proofs.Kit.{◌∙◌, ◌≡◌, ap, refl, subst, sym, false, true, ◌⊎◌, inl, inr, ⊎_elim, List, ◌*◌, ◌+◌, ◌-◌, ◌<◌, ◌≤◌, ℕ, mul-zero, zero-mul}
+use Rattle.list_laws.proofs.Kit.{◌∙◌, ◌≡◌, ap, refl, subst, sym, false, ◌⊎◌, inl, inr, ⊎_elim, List, ◌*◌, ◌+◌, ◌-◌, ◌<◌, ◌≤◌, ℕ, mul-zero, zero-mul}
 use Rattle.list_laws.proofs.Kit.{arith, ltb, drop, get_or, length, length-drop, length-take, take, get_or-drop, get_or-take, ltb-false, dec_lt}
 use Rattle.model.specs.Bounded.{any_below, sum_below}
 use Rattle.model.specs.Piece.{line_direction}

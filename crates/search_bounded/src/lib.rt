@@ -18,7 +18,7 @@ ghost use Rattle.search_beside.specs.Ready.{LinesReady, OnTrack};
 use model::{COLUMN_BOUND, PieceEntry, PlaceEntry, StripEntry};
 use others::{Wanted, add_others};
 use search_beside::Sweep;
-use search_line_sums::{Found, least_below};
+use search_line_sums::{Least, least_below};
 use search_lines::RunSize;
 use search_tracks::{Mover, track_of};
 
@@ -38,7 +38,7 @@ fn search_over(
     lines: &mut [u8],
     maps: &mut [u64],
     sums: &mut [u32],
-) -> Found
+) -> Option<Least>
     requires fact_1 { LinesReady (lent_by run.size table.now pixels.now) run strips.now starts.now lines.old maps.old }
     requires fact_2 { Laid (lent_by run.size table.now pixels.now) layout.now }
     requires fact_3 { ValidWeights (job_of (lent_by run.size table.now pixels.now)) weights.now }
@@ -65,7 +65,7 @@ fn search_short(
     wanted: Wanted,
     lines: &mut [u8],
     maps: &mut [u64],
-) -> Found
+) -> Option<Least>
     requires fact_1 { LinesReady (lent_by run.size table.now pixels.now) run strips.now starts.now lines.old maps.old }
     requires fact_2 { Laid (lent_by run.size table.now pixels.now) layout.now }
     requires fact_3 { ValidWeights (job_of (lent_by run.size table.now pixels.now)) weights.now }
@@ -103,7 +103,7 @@ fn search_long(
     wanted: Wanted,
     lines: &mut [u8],
     maps: &mut [u64],
-) -> Found
+) -> Option<Least>
     requires fact_1 { LinesReady (lent_by run.size table.now pixels.now) run strips.now starts.now lines.old maps.old }
     requires fact_2 { Laid (lent_by run.size table.now pixels.now) layout.now }
     requires fact_3 { ValidWeights (job_of (lent_by run.size table.now pixels.now)) weights.now }
@@ -142,7 +142,7 @@ pub fn search_below(
     bound: u32,
     lines: &mut [u8],
     maps: &mut [u64],
-) -> Found
+) -> Option<Least>
     requires fact_1 { LinesReady (lent_by run.size table.now pixels.now) run strips.now starts.now lines.old maps.old }
     requires fact_2 { Laid (lent_by run.size table.now pixels.now) layout.now }
     requires fact_3 { ValidWeights (job_of (lent_by run.size table.now pixels.now)) weights.now }

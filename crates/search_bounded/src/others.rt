@@ -111,6 +111,7 @@ pub fn add_others(
     let mover = wanted.sweep.mover;
     let track = wanted.sweep.track;
     let mut left = near_pieces(size, table, layout, mover, track);
+    // A while: each turn takes the lowest bit that is left, whatever its place.
     while left != 0 {
         let k = u64::trailing_zeros(left) as usize;
         add_other(

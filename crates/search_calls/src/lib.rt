@@ -14,11 +14,11 @@ ghost use Rattle.search_calls.specs.Answers.{InReach, best_answer, search_answer
 
 use causes::placing_causes;
 use model::{
-    Column, Coordinate, Direction, DoneAnswer, JobSize, Line, PieceEntry, PlaceEntry, Refusal, Row,
-    Turn, plain_refusal,
+    Column, Coordinate, Direction, JobSize, Line, PieceEntry, PlaceEntry, Refusal, Row, Turn,
+    plain_refusal,
 };
 use search_bounded::search_below;
-use search_line_sums::Found;
+use search_line_sums::Least;
 use search_lines::{LEAST_LINES, LEAST_MAPS, RunSize, ready_maps};
 use search_shapes::{STARTS_LENGTH, empty_store};
 use search_tracks::Mover;
@@ -29,11 +29,11 @@ const SLOTS: usize = 1;
 // No sum reaches it: a search without a bound.
 const NO_BOUND: u32 = 4294967295;
 
-// The least pair sum on a line and the smallest coordinate that has it, or why the search is refused.
+// The least pair sum on a line and the smallest coordinate that has it.
 #[derive(Clone, Copy)]
-pub enum SearchAnswer {
-    Best(u64, Coordinate),
-    Refused(Refusal),
+pub struct BestPlace {
+    pub sum: u64,
+    pub at: Coordinate,
 }
 
 // The line search without a bound, with strips and stores of its own.
@@ -44,7 +44,7 @@ fn search_alone(
     layout: &[PlaceEntry],
     weights: &[u32],
     mover: Mover,
-) -> Found
+) -> Option<Least>
     requires fact_1 { Laid (lent_by size table.now pixels.now) layout.now }
     requires fact_2 { ValidWeights (job_of (lent_by size table.now pixels.now)) weights.now }
     requires fact_3 { mover.piece < size.count }
@@ -81,13 +81,16 @@ fn coordinate_on(line: Line, at: u16) -> Coordinate
 }
 
 // What a search on the line without a bound says: refusal 11 where it finds nothing, since then the line has no place.
-fn best_answer(line: Line, found: Found) -> SearchAnswer
+fn best_answer(line: Line, found: Option<Least>) -> Result<BestPlace, Refusal>
     requires { InReach found }
     ensures { result ≡ best_answer line found }
 {
     match found {
-        Found::At(sum, at) => SearchAnswer::Best(sum as u64, coordinate_on(line, at as u16)),
-        Found::Nothing => SearchAnswer::Refused(plain_refusal(11)),
+        Some(least) => Ok(BestPlace {
+            sum: least.sum as u64,
+            at: coordinate_on(line, least.at as u16),
+        }),
+        None => Err(plain_refusal(11)),
     }
 }
 
@@ -102,21 +105,13 @@ pub fn line_search(
     piece: usize,
     turn: Turn,
     line: Line,
-) -> SearchAnswer
+) -> Result<BestPlace, Refusal>
     ensures { result ≡ search_answer line (search_call (lent_by size table.now pixels.now) layout.now weights.now piece turn line) }
 {
-    match placing_causes(size, table, pixels, layout, weights, piece, turn) {
-        DoneAnswer::Refused(refusal) => SearchAnswer::Refused(refusal),
-        DoneAnswer::Done => {
-            let mover = Mover {
-                piece: piece,
-                turn: turn,
-                line: line,
-            };
-            best_answer(
-                line,
-                search_alone(size, table, pixels, layout, weights, mover),
-            )
-        }
-    }
+    placing_causes(size, table, pixels, layout, weights, piece, turn)?;
+    let mover = Mover { piece, turn, line };
+    best_answer(
+        line,
+        search_alone(size, table, pixels, layout, weights, mover),
+    )
 }

@@ -1,8 +1,7 @@
 -- Equal pieces are equal in every turn; pieces of one box are equal where their bytes are. Assumes nothing.
-use Rattle.list_laws.proofs.Kit.{◌∙◌, ◌≡◌, ap, refl, List, ◌*◌, ◌+◌, ◌-◌, ◌<◌, ◌≤◌, ℕ, arith, eqb, get_or, length, mul_comm, true}
+use Rattle.list_laws.proofs.Kit.{◌∙◌, ◌≡◌, ap, refl, ◌*◌, ◌+◌, ◌-◌, ◌<◌, ◌≤◌, ℕ, arith, eqb, get_or, length, mul_comm, true}
 use Rattle.list_laws.proofs.Numbers.{in_rows_lem}
 use Rattle.model.specs.Piece.{Shape, turned}
-use Rattle.model.specs.Layout.{Job}
 use Rattle.model.specs.Lent.{Lent, job_of, lent_shape, lent_well, entry_columns, entry_rows, entry_area, pixel_start, piece_bound, area_bound}
 use Rattle.model.specs.declared.Direction.TheVariants.{Horizontal}
 use Rattle.model.specs.declared.Turn.{Turn}
@@ -12,10 +11,6 @@ use Rattle.strip_laws.specs.Boxes.{SameShape}
 use Rattle.strip_laws.proofs.Boxes.{same_cell}
 use Rattle.search_maps.proofs.Turning.{same_in_box}
 use Rattle.search_classes.specs.Classes.{Equal}
-
--- a piece is equal to itself
-pub equal_self : (j : Job) (i : ℕ) → Equal j i i
-equal_self j i = record { columns = refl; rows = refl; pixels = λ p. refl }
 
 module _ (s u : Shape) (h : SameShape s u) where
   -- the same pixel of both, at places that are counted from a side

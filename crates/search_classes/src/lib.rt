@@ -14,14 +14,7 @@ fn same_bytes(bytes: &[u8], a: usize, b: usize, n: usize) -> bool
     requires { (a + n ≤ length bytes.now) × (b + n ≤ length bytes.now) × (a + n ≤ area_bound) × (b + n ≤ area_bound) }
     ensures { result ≡ true → (k : ℕ) → k < n → get_or bytes.now (a + k) 0 ≡ get_or bytes.now (b + k) 0 }
 {
-    let mut k = 0;
-    while k < n {
-        if bytes[a + k] != bytes[b + k] {
-            return false;
-        }
-        k += 1;
-    }
-    true
+    bytes[a..a + n] == bytes[b..b + n]
 }
 
 // Whether two pieces have the same box and the same pixels.
@@ -47,15 +40,9 @@ fn class_of(size: JobSize, table: &[PieceEntry], pixels: &[u8], i: usize) -> usi
     requires fact_2 { i < size.count }
     ensures { (result ≤ i) × Equal (job_of (lent_by size table.now pixels.now)) i result }
 {
-    let mut k = 0;
-    while k < i {
-        let same = equal_pieces(size, table, pixels, i, k);
-        if same {
-            return k;
-        }
-        k += 1;
-    }
-    i
+    (0..i)
+        .find(|k| equal_pieces(size, table, pixels, i, *k))
+        .unwrap_or(i)
 }
 
 // Writes the class of each piece, from the first word on.
@@ -64,9 +51,7 @@ pub fn put_classes(size: JobSize, table: &[PieceEntry], pixels: &[u8], words: &m
     requires fact_2 { size.count ≤ length words.old }
     ensures { Classes (job_of (lent_by size table.now pixels.now)) words.new }
 {
-    let mut i = 0;
-    while i < size.count {
-        words[i] = class_of(size, table, pixels, i) as u64;
-        i += 1;
+    for (i, word) in words[..size.count].iter_mut().enumerate() {
+        *word = class_of(size, table, pixels, i) as u64;
     }
 }

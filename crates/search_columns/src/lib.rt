@@ -8,7 +8,6 @@ ghost use Rattle.bit_laws.specs.Bit.{length_limit};
 ghost use Rattle.search_columns.specs.Column.{FirstClear, FirstWithin, beside, ClearBelow, GapWithin, Walled, ColumnWalled, SidesDone, counted, Fallen, Ended, ColumnEnds, ColumnDone};
 
 use search_peel::bits_at;
-use whole_numbers::smaller;
 
 // The bits of a word, half of them, and the highest one.
 const WORD: usize = 64;
@@ -25,7 +24,7 @@ fn clear_below(ws: &[u64], p: usize) -> u64
     requires { (p + 128 ≤ length ws.now * 64) × (length ws.now < length_limit) }
     ensures { ClearBelow ws.now p 64 result }
 {
-    let s = smaller(p, TOP);
+    let s = p.min(TOP);
     !bits_at(ws, p - s) << (TOP - s)
 }
 
@@ -33,10 +32,7 @@ fn clear_below(ws: &[u64], p: usize) -> u64
 fn nearer(above: u64, below: u64) -> usize
     ensures { result ≡ min (count_trailing_zeros 64 above) (count_leading_zeros 64 below) }
 {
-    smaller(
-        u64::trailing_zeros(above) as usize,
-        u64::leading_zeros(below) as usize,
-    )
+    above.trailing_zeros().min(below.leading_zeros()) as usize
 }
 
 // How far past n the nearer clear bit of p's row is, and 64 where it is not nearer than that.
@@ -54,6 +50,7 @@ fn far_gap(ws: &[u64], p: usize) -> usize
 {
     let mut n = 0;
     let mut k = gap_within(ws, p, 0);
+    // A while: it ends at the word that has a clear bit, which the bits decide.
     while k == WORD {
         n += WORD;
         k = gap_within(ws, p, n);
@@ -76,12 +73,12 @@ fn row_gap(ws: &[u64], p: usize, bound: usize) -> usize
     ensures { FirstWithin (beside ws.now p) bound result }
 {
     if p >= HALF {
-        let k = smaller(near_gap(ws, p), bound);
+        let k = near_gap(ws, p).min(bound);
         if k < HALF {
             return k;
         }
     }
-    smaller(far_gap(ws, p), bound)
+    far_gap(ws, p).min(bound)
 }
 
 // One more than the count at a neighbour, but 0 at a clear place.
@@ -99,7 +96,7 @@ fn count_on(v: u8, n: usize) -> usize
 fn lesser(v: u8, n: usize) -> u8
     ensures { result ≡ min v n }
 {
-    smaller(v as usize, n) as u8
+    usize::from(v).min(n) as u8
 }
 
 // Sets each place of the line to how far its bit lies from a clear one along its row or down the column, but to no more than a byte holds.
@@ -111,13 +108,11 @@ fn sides_line(ws: &[u64], w: usize, p: usize, line: &mut [u8])
 {
     let mut n = 0;
     let mut q = p;
-    let mut y = 0;
-    while y < line.len() {
-        let v = row_gap(ws, q, smaller(n + 1, BYTE_MOST)) as u8;
-        line[y] = v;
+    for place in line.iter_mut() {
+        let v = row_gap(ws, q, (n + 1).min(BYTE_MOST)) as u8;
+        *place = v;
         n = count_on(v, n);
         q += w;
-        y += 1;
     }
 }
 
@@ -127,9 +122,7 @@ fn fall(line: &mut [u8])
     ensures { Fallen line.old line.new }
 {
     let mut n = 0;
-    let mut k = line.len();
-    while 0 < k {
-        k -= 1;
+    for k in (0..line.len()).rev() {
         n = count_on(line[k], n);
         line[k] = lesser(line[k], n);
     }

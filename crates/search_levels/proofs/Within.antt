@@ -1,33 +1,12 @@
 -- Copies and moves within one slice. Assumes nothing.
-use Rattle.list_laws.proofs.Kit.{◌∙◌, ◌≡◌, ap, ap₂, refl, subst, sym, Bool, ◌&&◌, ◌||◌, List, ◌%◌, ◌*◌, ◌+◌, ◌-◌, ◌/◌, ◌<◌, ◌≤◌, ℕ, arith, leb}
-use Rattle.list_laws.proofs.Kit.{get_or, length, length-set, set, get_or-set_other, get_or-set_same, ℕ_discrete}
+use Rattle.list_laws.proofs.Kit.{◌∙◌, ◌≡◌, ap, ap₂, subst, sym, Bool, ◌&&◌, ◌||◌, List, ◌%◌, ◌*◌, ◌+◌, ◌-◌, ◌/◌, ◌<◌, ◌≤◌, ℕ, arith, leb}
+use Rattle.list_laws.proofs.Kit.{get_or, length, set}
 use lib.Bits.{bit_or}
 use Rattle.bit_laws.specs.Bit.{bit_at, bit_in}
 use Rattle.bit_laws.proofs.Strings.{bit_in_lem}
 use Rattle.search_words.specs.Words.{or_bit, OrRow}
 use Rattle.search_words.proofs.Moved.{moved, Moving, move_step}
 use Rattle.search_levels.specs.Levels.{Copied, NextLevel}
-
--- before the first word
-pub copy_none : (xs : List ℕ) (from to : ℕ) → Copied xs from to 0 xs
-copy_none xs from to = record { same = refl; done = λ k l. absurd (omega arith); before = λ m l. refl; after = λ m l. refl }
-
--- one more word
-pub copy_more : (xs : List ℕ) (from to k : ℕ) (ys : List ℕ) → from + k < to → to + k < length ys → Copied xs from to k ys
-    → Copied xs from to (k + 1) (set ys (to + k) (get_or ys (from + k) 0))
-copy_more xs from to k ys lf lt g =
-    record {
-      same = simp length-set g.same;
-      done = λ j l. go j l (ℕ_discrete j k);
-      before = λ m l. get_or-set_other ys (to + k) m _ 0 (omega arith) ∙ g.before m l;
-      after = λ m l. get_or-set_other ys (to + k) m _ 0 (omega arith) ∙ g.after m (omega arith);
-    }
-  where
-    go : (j : ℕ) → j < k + 1 → Dec (j ≡ k) → get_or (set ys (to + k) (get_or ys (from + k) 0)) (to + j) 0 ≡ get_or xs (from + j) 0
-    go j l (yes e) =
-        ap (λ (n : ℕ). get_or (set ys (to + k) (get_or ys (from + k) 0)) (to + n) 0) e
-        ∙ get_or-set_same ys (to + k) (get_or ys (from + k) 0) 0 lt ∙ g.before (from + k) lf ∙ ap (λ (n : ℕ). get_or xs (from + n) 0) (sym e)
-    go j l (no f) = get_or-set_other ys (to + k) (to + j) (get_or ys (from + k) 0) 0 (omega arith) ∙ g.done j (omega arith)
 
 -- the source, which lies before the row, is as it was
 pub within_step : (xs : List ℕ) (at start blocks s : ℕ) (ys : List ℕ) (low j : ℕ) → j < blocks → at + j < length ys → start + blocks ≤ at

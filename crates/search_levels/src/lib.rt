@@ -14,11 +14,7 @@ fn copy_words(ws: &mut [u64], from: usize, to: usize, count: usize)
     requires { (from + count ≤ to) × (to + count ≤ length ws.old) }
     ensures { Copied ws.old from to count ws.new }
 {
-    let mut k = 0;
-    while k < count {
-        ws[to + k] = ws[from + k];
-        k += 1;
-    }
+    ws.copy_within(from..from + count, to);
 }
 
 // A row takes over the bits of an earlier one of the same slice, moved up by s.
@@ -29,12 +25,10 @@ fn or_within(ws: &mut [u64], at: usize, start: usize, blocks: usize, s: usize)
     let skip = s / 64;
     let up = s % 64;
     let mut low: u64 = 0;
-    let mut j = skip;
-    while j < blocks {
+    for j in skip..blocks {
         let a = ws[start + (j - skip)];
         ws[at + j] |= (a << up) | ((low >> 1) >> (63 - up));
         low = a;
-        j += 1;
     }
 }
 
@@ -56,11 +50,9 @@ pub fn widen_levels(ws: &mut [u64], size: usize, levels: usize)
     let last = levels - 1;
     let mut from = 0;
     let mut s = 1;
-    let mut k = 0;
-    while k < last {
+    for _k in 0..last {
         widen_next(ws, from, size, s);
         from += size;
         s += s;
-        k += 1;
     }
 }

@@ -6,8 +6,6 @@
 ghost use Rattle.std.specs.Prelude.{◌≡◌, ◌+◌, ◌*◌, ◌<◌, ◌≤◌, length};
 ghost use Rattle.search_line_store.specs.Store.{line_store_bound, short_at, units_of, table_end, begin_of, Stretches, ShortPut, GivenUp, Claimed, Free};
 
-use whole_numbers::wide;
-
 // The bytes of a unit.
 pub const UNIT: usize = 8;
 
@@ -22,9 +20,7 @@ fn short_at(bytes: &[u8], at: usize) -> usize
     requires { (at + 2 ≤ length bytes.now) × (length bytes.now ≤ line_store_bound) }
     ensures { (result ≡ short_at bytes.now at) × (result < 65536) }
 {
-    let low = wide(bytes[at]);
-    let high = wide(bytes[at + 1]);
-    (low + high * 256) as usize
+    usize::from(bytes[at]) + usize::from(bytes[at + 1]) * 256
 }
 
 // Puts a number into two bytes.
@@ -66,11 +62,7 @@ fn give_up(bytes: &mut [u8], slots: usize)
     ensures { GivenUp slots bytes.old bytes.new }
 {
     let end = table_end(slots);
-    let mut k = 0;
-    while k < end {
-        bytes[k] = 0;
-        k += 1;
-    }
+    bytes[..end].fill(0);
 }
 
 // The place of so many free units: behind all stretches or, where the room does not suffice, the first place, with all stretches given up.

@@ -1,16 +1,19 @@
 -- Loops over the sums at the places of a line: the least one so far, and sums to which a line is added. Assumes nothing.
 use Rattle.list_laws.proofs.Kit.{◌∙◌, ◌≡◌, ap, ap₂, refl, subst, sym, Bool, ◌||◌, false, true, zero, suc, List}
 use Rattle.list_laws.proofs.Kit.{◌*◌, ◌+◌, ◌-◌, ◌<◌, ◌≤◌, ℕ, mul-le-mul, arith, get_or, length, set}
-use Rattle.list_laws.proofs.Kit.{◌⊎◌, inl, inr, add-one, ltb, ltb-false}
+use Rattle.list_laws.proofs.Kit.{◌⊎◌, inl, inr, ⊎_elim, add-one, drop, get_or-drop, length-drop, ltb, ltb-false, ltb-true}
 use Rattle.list_laws.proofs.Numbers.{below_or}
+use Rattle.list_laws.proofs.Ranges.{any_in_list}
+use Rattle.list_laws.proofs.Tests.{same_tests}
 use Rattle.list_laws.proofs.Bounded.{any_witness, any_from, any_none}
 use Rattle.list_laws.proofs.Passes.{Passing, pass_none, pass_over, pass_set}
+use Rattle.std.specs.List.{list_any}
 use Rattle.model.specs.Bounded.{any_below}
 use Rattle.search_laws.specs.BoundedSearch.{below_bound}
 use Rattle.search_laws.proofs.BoundedSearch.{answer_of, answer_begin, answer_lower, answer_keep, answer_some, answer_none, whole_serves}
 use Rattle.search_line_sums.specs.Answers.{found_answer, NoneBelow}
 use Rattle.search_line_sums.specs.Added.{LineAdded}
-use Rattle.search_line_sums.specs.declared.Found.TheVariants.{At, Nothing}
+use Rattle.std.specs.Prelude.{Some, None}
 
 -- the sum at a place
 abbrev pub sum_of : List ℕ → ℕ → ℕ
@@ -60,6 +63,25 @@ four_none sums bound at l e h = record { inside = l; each = λ k b. go k b (belo
         let z : at + (k - at) ≡ k = omega arith in
         ltb-false (get_or sums k 0) bound (ap (λ (i : ℕ). ltb (get_or sums i 0) bound) (sym z) ∙ any_none 4 (below_at sums bound at) e (k - at) (omega arith))
 
+-- some sum from a place on is below the bound, where none before it is
+pub below_tail : (sums : List ℕ) (bound from : ℕ) → NoneBelow sums bound from
+    → list_any (λ sum. ltb sum bound) (drop from sums) ≡ any_below (length sums) (λ a. ltb (get_or sums a 0) bound)
+below_tail sums bound from h =
+    any_in_list (λ sum. ltb sum bound) (drop from sums) 0
+    ∙ same_tests _ _
+    (λ e.
+    let w = any_witness (length (drop from sums)) (λ k. ltb (get_or (drop from sums) k 0) bound) e in
+    let l = w.below in
+    any_from (length sums) (from + w.number) (λ a. ltb (get_or sums a 0) bound) (omega (arith, length-drop from sums)) (rw get_or-drop at w.passing))
+    (λ e.
+    let w = any_witness (length sums) (λ a. ltb (get_or sums a 0) bound) e in
+    let l = w.below in
+    let under = ltb-true (get_or sums w.number 0) bound w.passing in
+    let behind : from ≤ w.number = ⊎_elim (λ b. absurd (omega (arith, h.each w.number b))) (λ b. b) (below_or w.number from) in
+    let place : from + (w.number - from) ≡ w.number = omega arith in
+    any_from (length (drop from sums)) (w.number - from) (λ k. ltb (get_or (drop from sums) k 0) bound) (omega (arith, length-drop from sums))
+    (rw (get_or-drop from sums (w.number - from) 0, place) w.passing))
+
 -- ── the least sum ──
 
 -- `low` and `at` are the answer for the places below a
@@ -94,11 +116,11 @@ module _ (sums : List ℕ) (bound low at a : ℕ) (s : Scanned sums bound low at
       }
 
   -- after the last place: one was found
-  pub scan_found : a ≡ length sums → low < bound → At low at ≡ found_answer (below_bound (sum_of sums) (length sums) bound)
+  pub scan_found : a ≡ length sums → low < bound → Some (record { sum = low; at = at }) ≡ found_answer (below_bound (sum_of sums) (length sums) bound)
   scan_found e l = sym (ap found_answer (subst (λ (n : ℕ). below_bound (sum_of sums) n bound ≡ answer_of bound low at) e s.answer ∙ answer_some bound low at l))
 
   -- or none was
-  pub scan_none : a ≡ length sums → bound ≤ low → Nothing ≡ found_answer (below_bound (sum_of sums) (length sums) bound)
+  pub scan_none : a ≡ length sums → bound ≤ low → None ≡ found_answer (below_bound (sum_of sums) (length sums) bound)
   scan_none e l = sym (ap found_answer (subst (λ (n : ℕ). below_bound (sum_of sums) n bound ≡ answer_of bound low at) e s.answer ∙ answer_none bound low at l))
 
 -- where no sum is below the bound, none changes anything
@@ -109,7 +131,7 @@ scan_all sums bound (suc n) h =
     (scan_keep sums bound bound 0 n (scan_all sums bound n (λ k l. h k (omega arith))) (ltb-false (get_or sums n 0) bound (h n (omega arith))))
 
 pub scan_nothing : (sums : List ℕ) (bound : ℕ) → any_below (length sums) (λ a. ltb (get_or sums a 0) bound) ≡ false
-    → Nothing ≡ found_answer (below_bound (sum_of sums) (length sums) bound)
+    → None ≡ found_answer (below_bound (sum_of sums) (length sums) bound)
 scan_nothing sums bound e =
     scan_none sums bound bound 0 (length sums)
     (scan_all sums bound (length sums) (any_none (length sums) (λ a. ltb (get_or sums a 0) bound) e)) refl (omega arith)

@@ -12,11 +12,11 @@ ghost use Rattle.search_line_sums.specs.Added.{LineAdded};
 // The sums that are compared at once.
 const BLOCK: usize = 8;
 
-// The least sum below a bound and the smallest coordinate that has it, if there is one.
+// The least sum below a bound and the smallest coordinate that has it.
 #[derive(Clone, Copy)]
-pub enum Found {
-    At(u32, u32),
-    Nothing,
+pub struct Least {
+    pub sum: u32,
+    pub at: u32,
 }
 
 // Whether one of four sums, from a place on, is below the bound: all are compared at once.
@@ -32,28 +32,21 @@ fn below_from(sums: &[u32], from: usize, bound: u32) -> bool
     requires { NoneBelow sums.now bound from }
     ensures { result ≡ any_below (length sums.now) (λ a. ltb (get_or sums.now a 0) bound) }
 {
-    let mut a = from;
-    while a < sums.len() {
-        if sums[a] < bound {
-            return true;
-        }
-        a += 1;
-    }
-    false
+    sums[from..].iter().any(|sum| *sum < bound)
 }
 
 // Whether some sum is below the bound.
 pub fn any_below(sums: &[u32], bound: u32) -> bool
     ensures { result ≡ any_below (length sums.now) (λ a. ltb (get_or sums.now a 0) bound) }
 {
-    let mut a = 0;
-    while sums.len() - a >= BLOCK {
+    let blocks = sums.len() / BLOCK;
+    for block in 0..blocks {
+        let a = block * BLOCK;
         if four_below(sums, a, bound) | four_below(sums, a + 4, bound) {
             return true;
         }
-        a += BLOCK;
     }
-    below_from(sums, a, bound)
+    below_from(sums, blocks * BLOCK, bound)
 }
 
 // Adds the penalties of a line of weight 1, as most are: nothing is multiplied.
@@ -62,10 +55,8 @@ fn add_once(sums: &mut [u32], low: usize, line: &[u8])
     requires fact_2 { ((a : ℕ) → get_or sums.old a 0 ≤ 1073741824) }
     ensures { LineAdded 1 low line.now sums.old sums.new }
 {
-    let mut k = 0;
-    while k < line.len() {
-        sums[low + k] += line[k] as u32;
-        k += 1;
+    for (k, penalty) in line.iter().enumerate() {
+        sums[low + k] += *penalty as u32;
     }
 }
 
@@ -76,10 +67,8 @@ fn add_weighted(sums: &mut [u32], low: usize, line: &[u8], weight: u32)
     requires fact_3 { ((a : ℕ) → get_or sums.old a 0 ≤ 1073741824) }
     ensures { LineAdded weight low line.now sums.old sums.new }
 {
-    let mut k = 0;
-    while k < line.len() {
-        sums[low + k] += weight * (line[k] as u32);
-        k += 1;
+    for (k, penalty) in line.iter().enumerate() {
+        sums[low + k] += weight * (*penalty as u32);
     }
 }
 
@@ -99,33 +88,34 @@ pub fn add_line(sums: &mut [u32], low: usize, line: &[u8], weight: u32)
 }
 
 // The least sum below the bound and the first place that has it, sum after sum.
-fn least_of(sums: &[u32], bound: u32) -> Found
+fn least_of(sums: &[u32], bound: u32) -> Option<Least>
     requires { length sums.now ≤ column_bound }
     ensures { result ≡ found_answer (below_bound (λ a. get_or sums.now a 0) (length sums.now) bound) }
 {
     let mut low = bound;
     let mut at: usize = 0;
-    let mut a = 0;
-    while a < sums.len() {
-        if sums[a] < low {
-            low = sums[a];
+    for (a, sum) in sums.iter().enumerate() {
+        if *sum < low {
+            low = *sum;
             at = a;
         }
-        a += 1;
     }
     if low < bound {
-        return Found::At(low, at as u32);
+        return Some(Least {
+            sum: low,
+            at: at as u32,
+        });
     }
-    Found::Nothing
+    None
 }
 
 // The least sum below the bound and the first place that has it. Most searches have none, which is told faster than the least is found.
-pub fn least_below(sums: &[u32], bound: u32) -> Found
+pub fn least_below(sums: &[u32], bound: u32) -> Option<Least>
     requires { length sums.now ≤ column_bound }
     ensures { result ≡ found_answer (below_bound (λ a. get_or sums.now a 0) (length sums.now) bound) }
 {
     if !any_below(sums, bound) {
-        return Found::Nothing;
+        return None;
     }
     least_of(sums, bound)
 }

@@ -20,7 +20,6 @@ ghost use Rattle.search_map_laws.specs.Turns.{turn_before};
 use model::{Direction, JobSize, PIECE_BOUND, PieceEntry, StripEntry, Turn};
 use search_line_store::{UNIT, begin_of, claim, units_of};
 use search_maps::Sides;
-use whole_numbers::{larger, wide};
 
 // Where the moved piece's corner stands across: no offset of a standing one that matters is below 0.
 pub const MIDDLE: usize = search_map_lines::MIDDLE;
@@ -134,8 +133,8 @@ fn key_at(lines: &[u8], at: usize) -> u32
     requires { (at + key_bytes ≤ length lines.now) × (length lines.now ≤ lines_bound) }
     ensures { result ≡ key_at lines.now at }
 {
-    let low = wide(lines[at]) + wide(lines[at + 1]) * 256;
-    let high = wide(lines[at + 2]) + wide(lines[at + 3]) * 256;
+    let low = u32::from(lines[at]) + u32::from(lines[at + 1]) * 256;
+    let high = u32::from(lines[at + 2]) + u32::from(lines[at + 3]) * 256;
     low + high * 65536
 }
 
@@ -315,12 +314,8 @@ fn copy_back(from: &[u8], to: &mut [u8])
     requires { length to.old ≡ length from.now }
     ensures { Backwards from.now to.new }
 {
-    let n = from.len();
-    let mut k = 0;
-    while k < n {
-        to[k] = from[n - 1 - k];
-        k += 1;
-    }
+    to.copy_from_slice(from);
+    to.reverse();
 }
 
 // The turn that is a quarter turn less.
@@ -561,7 +556,7 @@ fn line_units(
     ensures { UnitsFit direction (moved_shape (lent_by size table.now pixels.now) two) (standing_shape (lent_by size table.now pixels.now) two) result }
 {
     let sides = sides_of(size, table, two);
-    let longer = larger(sides.standing_along, sides.standing_across);
+    let longer = sides.standing_along.max(sides.standing_across);
     match direction {
         Direction::Horizontal => units_for(sides.moved_along + longer),
         Direction::Vertical => units_for(sides.moved_across + longer),

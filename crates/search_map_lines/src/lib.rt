@@ -14,7 +14,6 @@ ghost use Rattle.search_map_lines.specs.Line.{RowReaches, RowDone, Bordered, Byt
 
 use model::Direction;
 use search_maps::Sides;
-use whole_numbers::smaller;
 
 // Where the moved piece stands across: an offset of the standing one is counted from here. It is the longest box side with the largest gap, 255 + 8.
 pub const MIDDLE: usize = 263;
@@ -27,11 +26,7 @@ fn clear_line(line: &mut [u8], count: usize)
     requires { count ≤ length line.old }
     ensures { Cleared count line.old line.new }
 {
-    let mut k = 0;
-    while k < count {
-        line[k] = 0;
-        k += 1;
-    }
+    line[..count].fill(0);
 }
 
 // Sets the line to the distance of each set bit of a row that begins at p.
@@ -40,11 +35,9 @@ fn row_line(ws: &[u64], w: usize, p: usize, places: usize, line: &mut [u8])
     requires fact_2 { (places ≤ length line.old) × (length line.old < length_limit) }
     ensures { RowDone ws.now w p places line.old line.new }
 {
-    let mut at = 0;
-    while at < places {
-        let count = smaller(BLOCK, places - at);
+    for at in (0..places).step_by(BLOCK) {
+        let count = BLOCK.min(places - at);
         search_peel::peel(ws, w, p + at, count, line, at);
-        at += count;
     }
 }
 

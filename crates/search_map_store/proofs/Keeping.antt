@@ -1,8 +1,7 @@
 -- One more map in the store, made elsewhere and copied where it is large: the maps before it are as they were. Assumes nothing.
-use Rattle.list_laws.proofs.Kit.{◌∙◌, ◌≡◌, ap, refl, subst, subst₂, sym, List, ◌++◌, ◌*◌, ◌+◌, ◌-◌, ◌/◌, ◌%◌, ◌<◌, ◌≤◌, ℕ, arith, get_or-append}
+use Rattle.list_laws.proofs.Kit.{◌∙◌, ◌≡◌, ap, refl, subst, subst₂, sym, List, ◌++◌, ◌*◌, ◌+◌, ◌/◌, ◌%◌, ◌<◌, ◌≤◌, ℕ, arith, get_or-append}
 use Rattle.list_laws.proofs.Kit.{drop, get_or, length, length-append, length-drop, length-set, length-take, take, get_or-append-add, get_or-take, set}
 use Rattle.list_laws.proofs.Kit.{get_or-set_other, get_or-set_same, length-take-le, ℕ_discrete}
-use Rattle.list_laws.proofs.Passes.{Passing}
 use Rattle.model.specs.Piece.{Shape}
 use Rattle.model.specs.declared.Direction.{Direction}
 use Rattle.bit_laws.specs.Bit.{bit_at, bit_in}
@@ -120,16 +119,6 @@ module _ (xs part : List ℕ) (at n : ℕ) (full : length part ≡ n) (room : at
       }
 
 -- ── slots ──
-
--- zeros, and the end past the slots
-pub forgot : (slots : ℕ) (xs ys : List ℕ) → slots < length xs → Passing (λ j v. v ≡ 0) xs ys slots → Forgotten slots xs (set ys slots (slots + 1))
-forgot slots xs ys l p =
-    let q = p.same in
-    record {
-      same = length-set ys slots (slots + 1) ∙ p.same;
-      none = λ m h. get_or-set_other ys slots m (slots + 1) 0 (λ z. omega arith) ∙ p.done m h;
-      end = get_or-set_same ys slots (slots + 1) 0 (omega arith);
-    }
 
 -- where no slot has a key, no map is kept
 none_before_lem : (slots : ℕ) (xs ys : List ℕ) → Forgotten slots xs ys → (d : ℕ → Direction) (s t : ℕ → Shape) (end : ℕ) → MapsBefore slots d s t ys end

@@ -14,7 +14,6 @@ ghost use Rattle.search_map_store.specs.Store.{end_of, room_words, all_grown, Co
 
 use model::StripEntry;
 use search_maps::{MAP_WORDS, Sides};
-use whole_numbers::larger;
 
 // Every begin is below it: a slot holds a key and a begin.
 const BEGINS: u64 = 4294967296;
@@ -28,11 +27,7 @@ pub fn forget_maps(words: &mut [u64], slots: usize)
     requires { (slots < length words.old) × (length words.old < length_limit) }
     ensures { Forgotten slots words.old words.new }
 {
-    let mut m = 0;
-    while m < slots {
-        words[m] = 0;
-        m += 1;
-    }
+    words[..slots].fill(0);
     words[slots] = slots as u64 + 1;
 }
 
@@ -70,11 +65,7 @@ fn copy_words(from: &[u64], to: &mut [u64], n: usize)
     requires { (n ≤ length from.now) × (n ≤ length to.old) }
     ensures { Copied n from.now to.old to.new }
 {
-    let mut k = 0;
-    while k < n {
-        to[k] = from[k];
-        k += 1;
-    }
+    to[..n].copy_from_slice(&from[..n]);
 }
 
 // Makes the map of any two pieces, the moved one grown by `extra`. The words that it goes to are its scratch before: scratch that is enough for
@@ -126,10 +117,7 @@ fn room_words(sides: Sides) -> usize
     requires { SidesFit sides }
     ensures { result ≡ room_words sides }
 {
-    larger(
-        search_maps::map_words(sides),
-        search_maps::scratch_words(sides),
-    )
+    search_maps::map_words(sides).max(search_maps::scratch_words(sides))
 }
 
 // Makes the map of two pieces, the moved one grown by `extra`, and keeps it under a key.

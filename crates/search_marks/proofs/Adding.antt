@@ -7,7 +7,7 @@ use lib.Pow.{pow_mono, shl_exact}
 use Rattle.model.specs.Bounded.{any_below}
 use Rattle.pair_overlap.specs.Meet.{strip_at}
 use Rattle.bit_laws.specs.Bit.{bit_in}
-use Rattle.bit_laws.proofs.Laws.{or_assoc, or_false}
+use Rattle.bit_laws.proofs.Laws.{or_assoc}
 use Rattle.search_words.specs.Words.{Spare, Widened, StripMarked}
 use Rattle.search_levels.specs.Levels.{level_of, Levels}
 use Rattle.search_marks.specs.Marks.{strip_bit, LevelOf, SpanOf, Made}
@@ -80,10 +80,6 @@ any_suc i f = ap (λ (n : ℕ). any_below n f) (add-one i) ∙ turn (f i) (any_b
     turn true false = refl
     turn false true = refl
     turn false false = refl
-
--- before the first
-pub made_none : (xs bs : List ℕ) (es : List (List ℕ)) (w up : ℕ) → Made xs bs es w up 0 xs
-made_none xs bs es w up = record { same = refl; each = λ p. sym (or_false (bit_in xs p)) }
 
 -- one more
 pub made_more : (xs bs : List ℕ) (es : List (List ℕ)) (w up i : ℕ) (ys zs : List ℕ) (r : Span) → SpanOf (strip_at es i) w up r → Made xs bs es w up i ys

@@ -2,14 +2,13 @@
 // strips. Rows of the string are w bits wide, and pixel (along, across) stands at across * w + along.
 #![tactic(auto)]
 
-ghost use Rattle.std.specs.Prelude.{◌≡◌, ◌+◌, ◌*◌, ◌^◌, ◌<◌, ◌≤◌, length};
+ghost use Rattle.std.specs.Prelude.{◌≡◌, ◌^◌, ◌<◌, ◌≤◌, length};
 ghost use Rattle.pair_overlap.specs.Meet.{strip_at};
 ghost use Rattle.search_words.specs.Words.{StripMarked};
 ghost use Rattle.search_levels.specs.Levels.{Levels, level_of};
 ghost use Rattle.search_marks.specs.Marks.{LevelOf, SpanOf, SpanFits, StripsFit, Made, width_limit};
 
 use model::StripEntry;
-use whole_numbers::wide;
 
 // A strip in a string of bits: its place and its pixels.
 #[derive(Clone, Copy)]
@@ -39,13 +38,10 @@ fn span_at(es: &[StripEntry], i: usize, w: usize, up: usize) -> Span
     requires { (i < length es.now) × (w < width_limit) × (up ≤ 1) }
     ensures { SpanOf (strip_at es.now i) w up result }
 {
-    let e = es[i];
-    let line = wide(e[0]) as usize;
-    let first = wide(e[1]) as usize;
-    let count = wide(e[2]) as usize;
+    let [line, first, count] = es[i];
     Span {
-        place: (line + up) * w + first,
-        count,
+        place: (usize::from(line) + up) * w + usize::from(first),
+        count: usize::from(count),
     }
 }
 
@@ -77,10 +73,8 @@ pub fn add_strips(
     requires fact_3 { (w < width_limit) × (up ≤ 1) }
     ensures { Made to.old (level_of marks.now size 0) es.now w up (length es.now) to.new }
 {
-    let mut i = 0;
-    while i < es.len() {
+    for i in 0..es.len() {
         let span = span_at(es, i, w, up);
         add_strip(to, marks, size, levels, span);
-        i += 1;
     }
 }

@@ -42,6 +42,7 @@ fn fill(line: &mut [u8], at: usize, m: u64, v: u8)
     ensures { Filled at m v line.old line.new }
 {
     let mut left = m;
+    // A while: each turn takes the lowest bit that is left, however far up it stands.
     while left != 0 {
         let x = u64::trailing_zeros(left) as usize;
         line[at + x] = v;
@@ -57,6 +58,7 @@ pub fn peel(ws: &[u64], w: usize, p: usize, count: usize, line: &mut [u8], at: u
 {
     let mut v = bits_at(ws, p) & low_bits(count);
     let mut r = 1;
+    // A while: it ends when a layer leaves nothing inside, which the bits decide.
     while v != 0 {
         let n = inner(ws, w, p, r, v);
         fill(line, at, v & !n, r as u8);

@@ -21,17 +21,6 @@ pub record Made (d : Direction) (l : Lent) (store : List (List ℕ)) (starts : L
   pub few : 2 * at ≤ reached l.table k + 255 * k
   pub shapes : (m : ℕ) → m < k → ShapeAt d (numbered_shape (job_of l) m) store starts m
 
--- before the first
-pub made_none : (d : Direction) (l : Lent) (store : List (List ℕ)) (starts : List ℕ) → 0 < length starts → Made d l store (set starts 0 0) 0 0
-made_none d l store starts h =
-    let e : get_or (set starts 0 0) 0 0 ≡ 0 = get_or-set_same starts 0 0 0 h in
-    record {
-      next = e;
-      before = λ m b. let z : m ≡ 0 = omega arith in rw z (omega arith);
-      few = omega arith;
-      shapes = λ m b. absurd (omega arith);
-    }
-
 -- there is room for shape k
 pub record Fits (d : Direction) (l : Lent) (k at : ℕ) : Type 0 where
   pub piece : k / 4 < l.size.count

@@ -1,6 +1,6 @@
 -- The numbers of shapes: each piece in each turn has its own, and twice the strips of one are at most the pixels of its box and 255
 -- more. Assumes nothing.
-use Rattle.list_laws.proofs.Kit.{◌≡◌, refl, ⊎_elim, List, ◌%◌, ◌*◌, ◌+◌, ◌/◌, ◌<◌, ◌≤◌, suc, zero, ℕ, add-one, mul-le-mul_right, suc-mul, arith, length}
+use Rattle.list_laws.proofs.Kit.{◌≡◌, refl, ⊎_elim, List, ◌%◌, ◌*◌, ◌+◌, ◌/◌, ◌<◌, ◌≤◌, suc, ℕ, add-one, mul-le-mul_right, suc-mul, arith, length}
 use Rattle.model.specs.Piece.{Shape, extent, other, side_bound}
 use Rattle.model.specs.Strip.{strips}
 use Rattle.model.specs.Layout.{Job, turned_piece}
@@ -14,13 +14,6 @@ use Rattle.job_laws.proofs.Starts.{start_end}
 use Rattle.pair_measure.proofs.Rooms.{strips_half}
 use Rattle.descent_laws.specs.Trials.{turn_number}
 use Rattle.search_shapes.specs.Shapes.{numbered_turn, shape_number, numbered_shape}
-
--- a number that is none of the first three is the last turn's
-pub last_turn : (n : ℕ) → (n ≡ 0 → ⊥) → (n ≡ 1 → ⊥) → (n ≡ 2 → ⊥) → ThreeQuarters ≡ numbered_turn n
-last_turn zero a b c = absurd (a refl)
-last_turn (suc zero) a b c = absurd (b refl)
-last_turn (suc (suc zero)) a b c = absurd (c refl)
-last_turn (suc (suc (suc n))) a b c = refl
 
 -- a turn's number is below 4
 pub turn_below : (t : Turn) → turn_number t < 4

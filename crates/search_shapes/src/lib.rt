@@ -71,15 +71,13 @@ pub fn make_shapes(
 {
     let last = size.count * 4;
     let mut at = 0;
-    let mut k = 0;
     starts[0] = 0;
-    while k < last {
+    for k in 0..last {
         let piece = k / 4;
         let start = job_check::pixel_start(table, piece);
         let turn = numbered_turn(k % 4);
         at = strip_scan::put::put_piece(table, pixels, piece, start, turn, direction, store, at);
-        k += 1;
-        starts[k] = at as u32;
+        starts[k + 1] = at as u32;
     }
 }
 

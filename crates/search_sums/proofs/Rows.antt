@@ -1,9 +1,9 @@
 -- Running sums over the rows of the table of penalties and over the weights beside it. Assumes nothing.
-use Rattle.list_laws.proofs.Kit.{◌∙◌, ◌≡◌, ap, ap₂, subst, sym, List, ◌*◌, ◌+◌, ◌-◌, ◌/◌, ◌<◌, ◌≤◌, suc, ℕ, add-one, mul-le-mul, arith, get_or, length}
+use Rattle.list_laws.proofs.Kit.{◌∙◌, ◌≡◌, ap, subst, sym, List, ◌*◌, ◌+◌, ◌-◌, ◌/◌, ◌<◌, ◌≤◌, suc, ℕ, add-one, mul-le-mul, arith, get_or, length}
 use Rattle.list_laws.proofs.Kit.{replicate, take}
 use Rattle.model.specs.Bounded.{sum_below}
 use Rattle.model.specs.Layout.{Job, Layout, pairs, piece_sum, weighted_sum, unit_weights}
-use Rattle.list_laws.proofs.Sums.{sum_step, sum_agree}
+use Rattle.list_laws.proofs.Sums.{sum_agree}
 use Rattle.list_laws.proofs.Lists.{take_repeat}
 use Rattle.descent_laws.proofs.Bounds.{pairs_at_most}
 use Rattle.search_laws.specs.Pairs.{row_start, row_part}
@@ -32,20 +32,11 @@ row_closed n i h =
 pub few_times : (a b : ℕ) → a ≤ 64 → b ≤ 64 → a * b ≤ 4096
 few_times a b h g = let m : a * b ≤ 64 * 64 = mul-le-mul h g in omega arith
 
--- an entry of the table is one of 4,096
-pub entry_below : (n i k : ℕ) → n ≤ 64 → i < n → k < n → i * 64 + k < 4096
-entry_below n i k few h g = omega arith
-
 -- ── a piece's pair sum ──
 
 -- the row's term of piece k
 abbrev pub row_term : ℕ → List ℕ → List ℕ → ℕ → ℕ → ℕ
 row_term n T ws i k = weight_between n ws i k * get_or T (entry i k) 0
-
--- one more term
-pub row_more : (n : ℕ) (T ws : List ℕ) (i k sum cost : ℕ) → sum ≡ sum_below k (row_term n T ws i) → cost ≡ row_term n T ws i k
-    → sum + cost ≡ sum_below (k + 1) (row_term n T ws i)
-row_more n T ws i k sum cost e f = ap₂ (λ a b. a + b) e f ∙ sym (sum_step k (row_term n T ws i))
 
 -- all terms
 pub row_all : (j : Job) (v : Layout) (n : ℕ) (T ws : List ℕ) (i : ℕ) → j.size.count ≡ n → PenaltyTable j v n T → i < n → length ws ≡ length (pairs n)

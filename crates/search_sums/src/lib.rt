@@ -61,10 +61,8 @@ pub fn row_sum(penalties: &[u8], weights: &[u32], n: usize, i: usize) -> u64
     ensures { (j : Job) (v : Layout) → j.size.count ≡ n → PenaltyTable j v n penalties.now → result ≡ piece_sum j weights.now v i }
 {
     let mut sum = 0;
-    let mut k = 0;
-    while k < n {
+    for k in 0..n {
         sum += cost_between(weights, n, i, k, penalties[i * PIECE_BOUND + k]);
-        k += 1;
     }
     sum
 }
@@ -77,11 +75,9 @@ fn row_part(penalties: &[u8], weights: &[u32], n: usize, i: usize, from: usize) 
     ensures small { result ≤ 2 ^ 46 }
 {
     let mut sum = 0;
-    let mut k = i + 1;
     let mut at = from;
-    while k < n {
+    for k in i + 1..n {
         sum += (weights[at] as u64) * (penalties[i * PIECE_BOUND + k] as u64);
-        k += 1;
         at += 1;
     }
     sum
@@ -94,11 +90,9 @@ pub fn total(penalties: &[u8], weights: &[u32], n: usize) -> u64
 {
     let mut sum = 0;
     let mut from = 0;
-    let mut i = 0;
-    while i < n {
+    for i in 0..n {
         sum += row_part(penalties, weights, n, i, from);
-        i += 1;
-        from += n - i;
+        from += n - (i + 1);
     }
     sum
 }
@@ -140,11 +134,9 @@ fn raise_row(penalties: &[u8], weights: &mut [u32], n: usize, i: usize, from: us
     requires fact_2 { (i < n) × (from ≡ row_start n i) }
     ensures { (j : Job) (v : Layout) (ws : List ℕ) → j.size.count ≡ n → PenaltyTable j v n penalties.now → ValidWeights j ws → Raising j v ws from weights.old → Raising j v ws (row_start n (i + 1)) weights.new }
 {
-    let mut k = i + 1;
     let mut at = from;
-    while k < n {
+    for k in i + 1..n {
         raise_pair(weights, at, penalties[i * PIECE_BOUND + k]);
-        k += 1;
         at += 1;
     }
 }
@@ -155,10 +147,8 @@ pub fn raise(penalties: &[u8], weights: &mut [u32], n: usize)
     ensures { (j : Job) (v : Layout) → j.size.count ≡ n → PenaltyTable j v n penalties.now → ValidWeights j weights.old → weights.new ≡ raised j v weights.old }
 {
     let mut from = 0;
-    let mut i = 0;
-    while i < n {
+    for i in 0..n {
         raise_row(penalties, weights, n, i, from);
-        i += 1;
-        from += n - i;
+        from += n - (i + 1);
     }
 }

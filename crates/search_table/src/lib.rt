@@ -39,8 +39,7 @@ fn add_piece(
     ensures rows { Kept Horizontal table.now pixels.now layout.now rows.new row_spans.new }
     ensures columns { Kept Vertical table.now pixels.now layout.now columns.new column_spans.new }
 {
-    let mut k = 0;
-    while k < i {
+    for k in 0..i {
         let p = penalty_of(
             table,
             pixels,
@@ -55,7 +54,6 @@ fn add_piece(
         ) as u8;
         penalties[i * PIECE_BOUND + k] = p;
         penalties[k * PIECE_BOUND + i] = p;
-        k += 1;
     }
 }
 
@@ -78,8 +76,7 @@ fn fill_table(
     requires fact_5 { gap ≤ gap_bound }
     ensures { (size : JobSize) → size.gap ≡ gap → size.count ≡ length layout.now → PenaltyTable (job_of (lent_by size table.now pixels.now)) (layout_of layout.now) size.count penalties.new }
 {
-    let mut i = 0;
-    while i < layout.len() {
+    for i in 0..layout.len() {
         add_piece(
             table,
             pixels,
@@ -92,7 +89,6 @@ fn fill_table(
             column_spans,
             penalties,
         );
-        i += 1;
     }
 }
 

@@ -8,7 +8,6 @@ ghost use Rattle.model.specs.Buffer.{layout_of};
 ghost use Rattle.search_tracks.specs.Boxes.{track_of, standing_of, room_on, SmallTrack, SmallStanding, MeetingTold, MeetingReach};
 
 use model::{Direction, JobSize, Line, PieceEntry, PlaceEntry, Turn};
-use whole_numbers::smaller;
 
 // A piece that moves: its number, its turn and the line that it moves on.
 #[derive(Clone, Copy)]
@@ -186,7 +185,7 @@ pub fn reach_of(track: Track, standing: StandingPiece) -> Reach
         };
     }
     let low = low_of(standing.along, track.length);
-    let high = smaller(track.places, standing.along + standing.length);
+    let high = track.places.min(standing.along + standing.length);
     Reach {
         low: low,
         high: high,

@@ -5,18 +5,12 @@ ghost use Rattle.std.specs.Prelude.{◌+◌, ◌*◌, ◌/◌, ◌<◌, ◌≤�
 ghost use Rattle.bit_laws.specs.Bit.{length_limit};
 ghost use Rattle.search_words.specs.Words.{OrRow, OrFlat, Spare, StripOf, Cleared, Spread, Repeated};
 
-use whole_numbers::smaller;
-
 // Sets the first words to 0.
 pub fn clear_words(words: &mut [u64], count: usize)
     requires { count ≤ length words.old }
     ensures { Cleared count words.old words.new }
 {
-    let mut k = 0;
-    while k < count {
-        words[k] = 0;
-        k += 1;
-    }
+    words[..count].fill(0);
 }
 
 // A row of `blocks` words takes over another's bits, moved up by s. The part of a word that moves on is shifted twice, since a shift
@@ -28,12 +22,10 @@ pub fn or_row(to: &mut [u64], at: usize, from: &[u64], start: usize, blocks: usi
     let skip = s / 64;
     let up = s % 64;
     let mut low: u64 = 0;
-    let mut j = skip;
-    while j < blocks {
+    for j in skip..blocks {
         let a = from[start + (j - skip)];
         to[at + j] |= (a << up) | ((low >> 1) >> (63 - up));
         low = a;
-        j += 1;
     }
 }
 
@@ -68,13 +60,11 @@ fn spread(words: &mut [u64], count: usize, s: usize)
         return;
     }
     let up = s % 64;
-    let mut j = count - 1;
-    let mut a = words[j - skip];
-    while skip < j {
+    let mut a = words[count - 1 - skip];
+    for j in (skip + 1..count).rev() {
         let b = words[j - skip - 1];
         words[j] |= (a << up) | ((b >> 1) >> (63 - up));
         a = b;
-        j -= 1;
     }
     words[skip] |= a << up;
 }
@@ -86,8 +76,9 @@ pub fn grow(words: &mut [u64], count: usize, unit: usize, n: usize)
     ensures { Repeated count unit n words.old words.new }
 {
     let mut done = 1;
+    // A while: each turn goes on by as much as is done, or by what is left.
     while done < n {
-        let step = smaller(done, n - done);
+        let step = done.min(n - done);
         spread(words, count, step * unit);
         done += step;
     }

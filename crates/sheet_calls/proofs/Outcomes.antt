@@ -1,42 +1,40 @@
--- What the calls on a sheet come to, by the numbers that their checks gave, and what they answer. Assumes nothing.
-use Rattle.list_laws.proofs.Kit.{◌∙◌, ◌≡◌, ap, fun_ext, refl, sym, not, true, ⊎_elim, List, [], append-nil, ◌*◌, ◌+◌, ◌-◌, ◌<◌, ℕ, arith, eqb, get_or}
-use Rattle.list_laws.proofs.Kit.{length, ext_get_or, eq-eqb, eqb-true, ne_eqb, not-false}
+-- What the calls on a sheet come to, by what their checks answered, and what they answer. Assumes nothing.
+use Rattle.list_laws.proofs.Kit.{◌∙◌, ◌≡◌, ap, fun_ext, refl, sym, not, true, ⊎_elim, List, [], ◌*◌, ◌+◌, ◌-◌, ◌<◌, ℕ, eqb, get_or}
+use Rattle.list_laws.proofs.Kit.{length, ext_get_or, eq-eqb, eqb-true, not-false}
 use Rattle.model.specs.Bounded.{one_if}
 use Rattle.model.specs.Layout.{Job, inside}
 use Rattle.model.specs.Lent.{Lent, job_of, lent_well}
-use Rattle.model.specs.Refusal.{Outcome, refused, given, Cause, unless, plain_refusal}
+use Rattle.std.specs.Prelude.{Ok, Err}
+use Rattle.model.specs.Answers.{first_cause}
+use Rattle.model.specs.Refusal.{Outcome, refused, given, Cause, unless}
 use Rattle.model.specs.Calls.{sheet_causes, fresh_call, counts_after}
 use Rattle.model.specs.Cover.{Sheet, entry_in, map_from, covers_pixel, fresh, lay, withdraw, lay_causes, withdraw_causes, called, sheet_well}
 use Rattle.model.specs.declared.Placement.{Placement}
 use Rattle.model.specs.declared.Entry.{Entry}
 use Rattle.model.specs.declared.Record.{Record}
+use Rattle.model.specs.declared.Refusal.{Refusal}
 use Rattle.list_laws.proofs.Tests.{clash}
 use Rattle.text_laws.proofs.Outcomes.{unless_given}
-use Rattle.text_laws.specs.Outcomes.{NoCause}
+use Rattle.text_laws.proofs.Causes.{passed_none, refused_alone, refused_then, none_then}
 use Rattle.cover_laws.proofs.Calls.{LayTaken, Lies, WithdrawTaken, lay_given, withdraw_given, length_map_from, get_d_map_from}
 use Rattle.cover_laws.proofs.Counts.{LaidWell}
 use Rattle.cover_laws.proofs.Reached.{well_sound}
 use Rattle.sheet_counts.specs.Stamp.{moved, moved_by}
 use Rattle.sheet_counts.specs.declared.Change.TheVariants.{OneMore, OneLess}
-use Rattle.sheet_calls.specs.Answers.{record_of, given_answer, answer_by, sheet_answer}
-use Rattle.sheet_refusals.specs.Causes.{first_number, buffer_causes}
+use Rattle.sheet_calls.specs.Answers.{record_of, given_answer, record_answer, answer_by, sheet_answer}
+use Rattle.sheet_refusals.specs.Causes.{buffer_causes}
 use Rattle.sheet_calls.specs.Ready.{SheetReady}
 use Rattle.sheet_calls.specs.declared.SheetAnswer.{SheetAnswer}
+use Rattle.text_laws.specs.Outcomes.{NoCause}
 use Rattle.sheet_check.proofs.Recounts.{moved_up, moved_down}
-use Rattle.sheet_refusals.proofs.Causes.{Plain, first_refuses, none_there, none_refuses}
-use Rattle.sheet_refusals.proofs.Buffers.{buffer_plain, buffer_passed}
 
 -- ── what a call on a sheet comes to ──
 
-sheet_plain : (l : Lent) (s : Sheet) → Plain (sheet_causes l s [])
-unfolding sheet_causes
-sheet_plain l s = (refl, omega arith, (refl, omega arith, (refl, omega arith, tt)))
-
 -- a sheet without a cause of its own is ready for a call
-pub sheet_ready : (l : Lent) (s : Sheet) → first_number (sheet_causes l s []) ≡ 0 → SheetReady l s
+pub sheet_ready : (l : Lent) (s : Sheet) → Ok tt ≡ first_cause (sheet_causes l s []) → SheetReady l s
 unfolding sheet_causes
 sheet_ready l s e =
-    let absent = none_there (sheet_causes l s []) (sheet_plain l s) e in
+    let absent = passed_none (sheet_causes l s []) e in
     record {
       well = not-false (lent_well l) absent.0;
       full =
@@ -53,59 +51,48 @@ ready_absent l s ready =
 
 module _ {A : Type 0} (l : Lent) (s : Sheet) (more : List Cause) (a : A) where
   -- refused by the job, the buffer or the sheet
-  pub sheet_refused : (n : ℕ) → n ≡ first_number (sheet_causes l s []) → (n ≡ 0 → ⊥) → unless (sheet_causes l s more) a ≡ refused (plain_refusal n)
+  pub sheet_refused : (r : Refusal) → Err r ≡ first_cause (sheet_causes l s []) → unless (sheet_causes l s more) a ≡ refused r
   unfolding sheet_causes
-  sheet_refused n e some = first_refuses (sheet_causes l s []) more a n (sheet_plain l s) (sym e) some
+  sheet_refused r e = refused_then (sheet_causes l s []) more a r e
 
   -- else the call's own causes decide
   pub own_causes : SheetReady l s → unless (sheet_causes l s more) a ≡ unless more a
   unfolding sheet_causes
-  own_causes ready = none_refuses (sheet_causes l s []) more a (ready_absent l s ready)
+  own_causes ready = none_then (sheet_causes l s []) more a (ready_absent l s ready)
 
-  pub own_refused : (n : ℕ) → Plain more → SheetReady l s → n ≡ first_number more → (n ≡ 0 → ⊥) → unless (sheet_causes l s more) a ≡ refused (plain_refusal n)
-  own_refused n plain ready e some =
-      own_causes ready ∙ ap (λ (cs : List Cause). unless cs a) (sym (append-nil more)) ∙ first_refuses more [] a n plain (sym e) some
+  pub own_refused : (r : Refusal) → Ok tt ≡ first_cause (sheet_causes l s []) → Err r ≡ first_cause more → unless (sheet_causes l s more) a ≡ refused r
+  own_refused r e own = own_causes (sheet_ready l s e) ∙ refused_alone more a r own
 
-  pub none_given : Plain more → SheetReady l s → first_number more ≡ 0 → unless (sheet_causes l s more) a ≡ given a
-  none_given plain ready e = own_causes ready ∙ unless_given more a (none_there more plain e)
-
--- the causes of a lay and of a withdraw have no places
-pub lay_plain : (j : Job) (s : Sheet) (i : ℕ) (p : Placement) → Plain (lay_causes j s i p)
-unfolding lay_causes
-lay_plain j s i p = (refl, omega arith, (refl, omega arith, (refl, omega arith, tt)))
-
-pub withdraw_plain : (j : Job) (s : Sheet) (i : ℕ) → Plain (withdraw_causes j s i)
-unfolding withdraw_causes
-withdraw_plain j s i = (refl, omega arith, (refl, omega arith, (refl, omega arith, tt)))
+  pub none_given : Ok tt ≡ first_cause (sheet_causes l s []) → Ok tt ≡ first_cause more → unless (sheet_causes l s more) a ≡ given a
+  none_given e own = own_causes (sheet_ready l s e) ∙ unless_given more a (passed_none more own)
 
 -- a lay and a withdraw without a cause are in order
-pub lay_order : (j : Job) (s : Sheet) (i : ℕ) (p : Placement) → first_number (lay_causes j s i p) ≡ 0 → LayTaken j s i p
+pub lay_order : (j : Job) (s : Sheet) (i : ℕ) (p : Placement) → Ok tt ≡ first_cause (lay_causes j s i p) → LayTaken j s i p
 unfolding called
 lay_order j s i p e =
-    (lay_given j s (lay j s i p) i p (unless_given (lay_causes j s i p) (lay j s i p) (none_there (lay_causes j s i p) (lay_plain j s i p) e))).0
+    (lay_given j s (lay j s i p) i p (unless_given (lay_causes j s i p) (lay j s i p) (passed_none (lay_causes j s i p) e))).0
 
-pub withdraw_order : (j : Job) (s : Sheet) (i : ℕ) → first_number (withdraw_causes j s i) ≡ 0 → WithdrawTaken j s i
+pub withdraw_order : (j : Job) (s : Sheet) (i : ℕ) → Ok tt ≡ first_cause (withdraw_causes j s i) → WithdrawTaken j s i
 unfolding called
 withdraw_order j s i e =
-    (withdraw_given j s (withdraw j s i) i
-    (unless_given (withdraw_causes j s i) (withdraw j s i) (none_there (withdraw_causes j s i) (withdraw_plain j s i) e))).0
+    (withdraw_given j s (withdraw j s i) i (unless_given (withdraw_causes j s i) (withdraw j s i) (passed_none (withdraw_causes j s i) e))).0
 
 -- ── a fresh sheet ──
 
-pub fresh_refused : (l : Lent) (room n : ℕ) → n ≡ first_number (buffer_causes l room) → (n ≡ 0 → ⊥) → fresh_call l room ≡ refused (plain_refusal n)
+pub fresh_refused : (l : Lent) (room : ℕ) (r : Refusal) → Err r ≡ first_cause (buffer_causes l room) → fresh_call l room ≡ refused r
 unfolding fresh_call
-fresh_refused l room n e some = first_refuses (buffer_causes l room) [] (fresh (job_of l)) n (buffer_plain l room) (sym e) some
+fresh_refused l room r e = refused_alone (buffer_causes l room) (fresh (job_of l)) r e
 
-pub fresh_given : (l : Lent) (room : ℕ) → first_number (buffer_causes l room) ≡ 0 → fresh_call l room ≡ given (fresh (job_of l))
+pub fresh_given : (l : Lent) (room : ℕ) → Ok tt ≡ first_cause (buffer_causes l room) → fresh_call l room ≡ given (fresh (job_of l))
 unfolding fresh_call
-fresh_given l room e = unless_given (buffer_causes l room) (fresh (job_of l)) (buffer_passed l room e).absent
+fresh_given l room e = unless_given (buffer_causes l room) (fresh (job_of l)) (passed_none (buffer_causes l room) e)
 
 -- ── answers ──
 
--- a refusal's answer and what it leaves
-pub refused_answer : (o : Outcome Sheet) (n : ℕ) (before : Record) (cs : List ℕ) (r : SheetAnswer) → o ≡ refused (plain_refusal n)
-    → r ≡ answer_by n before → (n ≡ 0 → ⊥) → (r ≡ sheet_answer before o) × (cs ≡ counts_after cs o)
-refused_answer o n before cs r e e' some = rw e (e' ∙ rw (ne_eqb n 0 some, answer_by), refl)
+-- what is given or refused, with the record before beside a refusal, is the call's answer
+pub answered : (before : Record) (o : Outcome Sheet) → answer_by before (record_answer o) ≡ sheet_answer before o
+answered before (refused r) = refl
+answered before (given s) = refl
 
 -- a given call's answer and what it leaves
 pub given_answer_lem : (o : Outcome Sheet) (s : Sheet) (before : Record) (cs cs' : List ℕ) (r : SheetAnswer) → o ≡ given s

@@ -1,12 +1,12 @@
 -- What the calls on a sheet answer: document 01's outcome as a reply with the sheet record beside it.
 -- On a refusal the record is the one that was passed, and of a fresh sheet the blank one. Assumes nothing.
-use Rattle.std.specs.Prelude.{true, false, ℕ, eqb, set, replicate}
+use Rattle.std.specs.Prelude.{ℕ, set, replicate, Result, Ok, Err}
 use Rattle.model.specs.Lent.{piece_bound}
-use Rattle.model.specs.Refusal.{Outcome, refused, given, plain_refusal}
+use Rattle.model.specs.Refusal.{Outcome, refused, given}
 use Rattle.model.specs.Cover.{Sheet, blank}
 use Rattle.model.specs.declared.Entry.{Entry}
 use Rattle.model.specs.declared.Record.{Record}
-use Rattle.model.specs.declared.DoneAnswer.TheVariants.{Done, Refused}
+use Rattle.model.specs.declared.Refusal.{Refusal}
 use Rattle.sheet_calls.specs.declared.SheetAnswer.{SheetAnswer}
 
 -- the record of a sheet
@@ -25,14 +25,19 @@ with_entry r i e = record { pieces = set r.pieces i e }
 
 -- the answer of a call that is taken up, with the record after it
 abbrev pub given_answer : Record → SheetAnswer
-given_answer r = record { reply = Done; sheet = r }
+given_answer r = record { reply = Ok tt; sheet = r }
 
--- the answer of a call whose first cause has the number, and of one with no cause, 0
-abbrev pub answer_by : ℕ → Record → SheetAnswer
-answer_by number r =
-    elim (eqb number 0) [ true ↦ given_answer r | false ↦ record { reply = Refused (plain_refusal number); sheet = r } ]
+-- the record that a call gives, or its refusal
+abbrev pub record_answer : Outcome Sheet → Result Record Refusal
+record_answer (refused r) = Err r
+record_answer (given s) = Ok (record_of s)
+
+-- the answer of a call by what it gives: on a refusal the record is the one before
+abbrev pub answer_by : Record → Result Record Refusal → SheetAnswer
+answer_by before (Err r) = record { reply = Err r; sheet = before }
+answer_by before (Ok s) = given_answer s
 
 -- a call's answer; `before` is the record on a refusal
 abbrev pub sheet_answer : Record → Outcome Sheet → SheetAnswer
-sheet_answer before (refused r) = record { reply = Refused r; sheet = before }
+sheet_answer before (refused r) = record { reply = Err r; sheet = before }
 sheet_answer before (given s) = given_answer (record_of s)

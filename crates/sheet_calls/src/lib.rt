@@ -5,11 +5,12 @@
 ghost use Rattle.std.specs.Prelude.{◌≡◌, length};
 ghost use Rattle.model.specs.Lent.{lent_by};
 ghost use Rattle.model.specs.Calls.{fresh_call, lay_call, withdraw_call, counts_after};
-ghost use Rattle.sheet_calls.specs.Answers.{blank_record, sheet_answer};
+ghost use Rattle.sheet_calls.specs.Answers.{blank_record, record_answer, sheet_answer};
 ghost use Rattle.sheet_refusals.specs.Causes.{sheet_of};
 
-use model::{DoneAnswer, Entry, JobSize, PieceEntry, Placement, Record};
+use model::{Entry, JobSize, PieceEntry, Placement, Record, Refusal};
 use sheet_counts::Change;
+use sheet_refusals::{buffer_refusal, lay_refusal, sheet_refusal, withdraw_refusal};
 
 mod record;
 
@@ -17,8 +18,23 @@ mod record;
 // refused fresh sheet has the record where nothing is laid.
 #[derive(Clone, Copy)]
 pub struct SheetAnswer {
-    pub reply: DoneAnswer,
+    pub reply: Result<(), Refusal>,
     pub sheet: Record,
+}
+
+// A fresh sheet's record, all counts 0, or its refusal.
+fn make_fresh(
+    size: JobSize,
+    table: &[PieceEntry],
+    pixels: &[u8],
+    counts: &mut [u8],
+) -> Result<Record, Refusal>
+    ensures value { result ≡ record_answer (fresh_call (lent_by size table.now pixels.now) (length counts.old)) }
+    ensures counts_after { counts.new ≡ counts_after counts.old (fresh_call (lent_by size table.now pixels.now) (length counts.old)) }
+{
+    buffer_refusal(size, table, pixels, counts.len())?;
+    sheet_counts::clear(counts);
+    Ok(record::blank_record())
 }
 
 // A fresh sheet: nothing is laid and all counts are 0. Refused: 8 the job, 7 a count buffer that is not W x L long.
@@ -26,12 +42,28 @@ pub fn fresh(size: JobSize, table: &[PieceEntry], pixels: &[u8], counts: &mut [u
     ensures value { result ≡ sheet_answer blank_record (fresh_call (lent_by size table.now pixels.now) (length counts.old)) }
     ensures counts_after { counts.new ≡ counts_after counts.old (fresh_call (lent_by size table.now pixels.now) (length counts.old)) }
 {
-    let number = sheet_refusals::buffer_refusal(size, table, pixels, counts.len());
-    if number != 0 {
-        return record::answer(number, record::blank_record());
-    }
-    sheet_counts::clear(counts);
-    record::answer(0, record::blank_record())
+    let given = make_fresh(size, table, pixels, counts);
+    record::answer(given, record::blank_record())
+}
+
+// The record with a piece laid, its pixels counted, or the refusal of the lay.
+fn lay_on(
+    size: JobSize,
+    table: &[PieceEntry],
+    pixels: &[u8],
+    sheet: Record,
+    counts: &mut [u8],
+    piece: usize,
+    place: Placement,
+) -> Result<Record, Refusal>
+    ensures value { result ≡ record_answer (lay_call (lent_by size table.now pixels.now) (sheet_of sheet counts.old) piece place) }
+    ensures counts_after { counts.new ≡ counts_after counts.old (lay_call (lent_by size table.now pixels.now) (sheet_of sheet counts.old) piece place) }
+{
+    sheet_refusal(size, table, pixels, sheet, counts)?;
+    lay_refusal(size, table, sheet, piece, place)?;
+    sheet_counts::move_piece(size, table, pixels, piece, place, Change::OneMore, counts);
+    let laid = Entry { laid: true, place };
+    Ok(record::with_entry(sheet, piece, laid))
 }
 
 // A piece laid: its entry holds the placement, and each pixel that it covers counts one more. Refused: 8 the job, 7, 8 a record or counts
@@ -48,17 +80,33 @@ pub fn lay(
     ensures value { result ≡ sheet_answer sheet (lay_call (lent_by size table.now pixels.now) (sheet_of sheet counts.old) piece place) }
     ensures counts_after { counts.new ≡ counts_after counts.old (lay_call (lent_by size table.now pixels.now) (sheet_of sheet counts.old) piece place) }
 {
-    let common = sheet_refusals::sheet_refusal(size, table, pixels, sheet, counts);
-    if common != 0 {
-        return record::answer(common, sheet);
-    }
-    let laying = sheet_refusals::lay_refusal(size, table, sheet, piece, place);
-    if laying != 0 {
-        return record::answer(laying, sheet);
-    }
-    sheet_counts::move_piece(size, table, pixels, piece, place, Change::OneMore, counts);
-    let laid = Entry { laid: true, place };
-    record::answer(0, record::with_entry(sheet, piece, laid))
+    let given = lay_on(size, table, pixels, sheet, counts, piece, place);
+    record::answer(given, sheet)
+}
+
+// The record with a piece off, its pixels no longer counted, or the refusal of the withdraw.
+fn withdraw_from(
+    size: JobSize,
+    table: &[PieceEntry],
+    pixels: &[u8],
+    sheet: Record,
+    counts: &mut [u8],
+    piece: usize,
+) -> Result<Record, Refusal>
+    ensures value { result ≡ record_answer (withdraw_call (lent_by size table.now pixels.now) (sheet_of sheet counts.old) piece) }
+    ensures counts_after { counts.new ≡ counts_after counts.old (withdraw_call (lent_by size table.now pixels.now) (sheet_of sheet counts.old) piece) }
+{
+    sheet_refusal(size, table, pixels, sheet, counts)?;
+    withdraw_refusal(size, table, sheet, piece)?;
+    let entry = sheet_check::entry_of(sheet, piece);
+    let place = entry.place;
+    sheet_counts::move_piece(size, table, pixels, piece, place, Change::OneLess, counts);
+    let off = record::origin();
+    let free = Entry {
+        laid: false,
+        place: off,
+    };
+    Ok(record::with_entry(sheet, piece, free))
 }
 
 // A piece withdrawn: its entry is blank, and each pixel that it covered counts one less. Refused: 8 the job, 7, 8 a record or counts that
@@ -74,21 +122,6 @@ pub fn withdraw(
     ensures value { result ≡ sheet_answer sheet (withdraw_call (lent_by size table.now pixels.now) (sheet_of sheet counts.old) piece) }
     ensures counts_after { counts.new ≡ counts_after counts.old (withdraw_call (lent_by size table.now pixels.now) (sheet_of sheet counts.old) piece) }
 {
-    let common = sheet_refusals::sheet_refusal(size, table, pixels, sheet, counts);
-    if common != 0 {
-        return record::answer(common, sheet);
-    }
-    let withdrawing = sheet_refusals::withdraw_refusal(size, table, sheet, piece);
-    if withdrawing != 0 {
-        return record::answer(withdrawing, sheet);
-    }
-    let entry = sheet_check::entry_of(sheet, piece);
-    let place = entry.place;
-    sheet_counts::move_piece(size, table, pixels, piece, place, Change::OneLess, counts);
-    let off = record::origin();
-    let free = Entry {
-        laid: false,
-        place: off,
-    };
-    record::answer(0, record::with_entry(sheet, piece, free))
+    let given = withdraw_from(size, table, pixels, sheet, counts, piece);
+    record::answer(given, sheet)
 }

@@ -5,7 +5,7 @@ ghost use Rattle.model.specs.Lent.{piece_bound};
 ghost use Rattle.sheet_calls.specs.Answers.{blank_record, with_entry, answer_by};
 
 use crate::SheetAnswer;
-use model::{Column, DoneAnswer, Entry, PIECE_BOUND, Placement, Record, Row, Turn, refused};
+use model::{Column, Entry, PIECE_BOUND, Placement, Record, Refusal, Row, Turn};
 
 // Turn 0 at corner (0, 0): the place in the entry of a piece that is not laid.
 pub fn origin() -> Placement
@@ -39,14 +39,18 @@ pub fn with_entry(mut sheet: Record, i: usize, entry: Entry) -> Record
     sheet
 }
 
-// The answer of a call whose first cause has the number, or of one that is taken up (0), with the record after it.
-pub fn answer(number: u8, sheet: Record) -> SheetAnswer
-    ensures { result ≡ answer_by number sheet }
+// The answer of a call by the record that it gives, or its refusal: then the record is the one before.
+pub fn answer(given: Result<Record, Refusal>, before: Record) -> SheetAnswer
+    ensures { result ≡ answer_by before given }
 {
-    if number == 0 {
-        let reply = DoneAnswer::Done;
-        return SheetAnswer { reply, sheet };
+    match given {
+        Ok(sheet) => SheetAnswer {
+            reply: Ok(()),
+            sheet,
+        },
+        Err(refusal) => SheetAnswer {
+            reply: Err(refusal),
+            sheet: before,
+        },
     }
-    let reply = refused(number);
-    SheetAnswer { reply, sheet }
 }

@@ -63,14 +63,7 @@ fn entries_well(size: JobSize, table: &[PieceEntry], sheet: Record) -> bool
     requires { size.count ≤ length table.now }
     ensures { (pixels : List ℕ) → result ≡ all_below piece_bound (entry_well (job_of (lent_by size table.now pixels)) sheet.pieces) }
 {
-    let mut i = 0;
-    while i < PIECE_BOUND {
-        if !entry_well(size, table, sheet, i) {
-            return false;
-        }
-        i += 1;
-    }
-    true
+    (0..PIECE_BOUND).all(|i| entry_well(size, table, sheet, i))
 }
 
 // One more on each pixel that piece i covers, where it is laid.
@@ -99,11 +92,8 @@ fn recount(size: JobSize, table: &[PieceEntry], pixels: &[u8], sheet: Record, ma
     ensures { Recounted (job_of (lent_by size table.now pixels.now)) sheet.pieces made.new }
 {
     sheet_counts::clear(made);
-    let count = size.count;
-    let mut piece = 0;
-    while piece < count {
+    for piece in 0..size.count {
         add_entry(size, table, pixels, sheet, piece, made);
-        piece += 1;
     }
 }
 

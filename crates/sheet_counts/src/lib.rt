@@ -71,12 +71,10 @@ fn move_row(
     requires { PixelStored pixels.now piece × ((x : ℕ) → x < width → InTurnedBox piece x y) × (from + width ≤ length counts.old) }
     ensures { counts.new ≡ moved_run change (on_at pixels.now piece y) from counts.old 0 width }
 {
-    let mut x = 0;
-    while x < width {
+    for x in 0..width {
         let on = piece_pixels::stored_pixel(pixels, piece, x, y);
         let at = from + x;
         counts[at] = moved_count(counts[at], on, change);
-        x += 1;
     }
 }
 
@@ -95,11 +93,9 @@ fn move_rows(
     ensures { counts.new ≡ moved_rows change (on_at pixels.now piece) sheet width counts.old first 0 height }
 {
     let mut from = first;
-    let mut y = 0;
-    while y < height {
+    for y in 0..height {
         move_row(pixels, piece, y, from, width, change, counts);
         from += sheet;
-        y += 1;
     }
 }
 
@@ -107,18 +103,7 @@ fn move_rows(
 pub fn clear(counts: &mut [u8])
     ensures { counts.new ≡ replicate (length counts.old) 0 }
 {
-    let mut k = 0;
-    while k < counts.len() {
-        counts[k] = 0;
-        k += 1;
-    }
-}
-
-// A coordinate as a wide number.
-fn wide(k: u16) -> usize
-    ensures { (result ≡ k) × (result < 65536) }
-{
-    k as usize
+    counts.fill(0);
 }
 
 // The number of the count at a placement's corner.
@@ -126,7 +111,7 @@ fn corner_number(sheet: usize, place: Placement) -> usize
     requires { sheet ≤ column_bound }
     ensures { result ≡ place.y.0 * sheet + place.x.0 }
 {
-    wide(place.y.0) * sheet + wide(place.x.0)
+    usize::from(place.y.0) * sheet + usize::from(place.x.0)
 }
 
 // Piece i at a placement: the count of each pixel that it covers changes.

@@ -1,5 +1,6 @@
 -- Lists of calls through the code. On a sheet that is ready, the first three causes of a call are not there, so the call comes to what
 -- the definition of a list of calls says; and the sheet is ready again after it. Assumes nothing.
+use Rattle.std.specs.Prelude.{Ok, Err}
 use Rattle.list_laws.proofs.Kit.{◌∙◌, ◌≡◌, refl, Bool, false, true, ◌⊎◌, inl, inr, ⊎_elim, List, [], ◌∷◌, ◌+◌, ◌<◌, ◌≤◌, ℕ, add-one, arith, drop}
 use Rattle.list_laws.proofs.Kit.{drop_of_length-le, get_or, length, drop-cons, eq-eqb, ne_eqb, not-false}
 use Rattle.model.specs.Layout.{Job}
@@ -20,7 +21,6 @@ use Rattle.cover_laws.proofs.Effects.{fresh_well, call_well}
 use Rattle.sheet_calls.specs.Answers.{record_of, blank_record, given_answer, sheet_answer}
 use Rattle.sheet_refusals.specs.Causes.{sheet_of, buffer_causes}
 use Rattle.sheet_calls.specs.Ready.{SheetReady}
-use Rattle.model.specs.declared.DoneAnswer.TheVariants.{Done, Refused}
 use Rattle.sheet_calls.specs.declared.SheetAnswer.{SheetAnswer}
 use Rattle.c_interface.specs.Numbers.{piece_with_turn}
 use Rattle.sheet_lists.specs.CallList.{call_of, calls_of, run_outcome}
@@ -125,7 +125,7 @@ run_cases l room es =
 module _ (l : Lent) (es : List (List ℕ)) (cs cs' : List ℕ) (start : SheetAnswer) (is : start ≡ sheet_answer blank_record (fresh_call l (length cs)))
     (left : cs' ≡ counts_after cs (fresh_call l (length cs))) where
   -- a refused start is the run's answer
-  pub refused_run : (r : Refusal) → start.reply ≡ Refused r
+  pub refused_run : (r : Refusal) → start.reply ≡ Err r
       → (start ≡ sheet_answer blank_record (run_outcome l (length cs) es)) × (cs' ≡ counts_after cs (run_outcome l (length cs) es))
   refused_run r so =
       ⊎_elim
@@ -138,11 +138,11 @@ module _ (l : Lent) (es : List (List ℕ)) (cs cs' : List ℕ) (start : SheetAns
       (run_cases l (length cs) es)
 
   -- after a given start the sheet is fresh, and the run is given
-  pub given_run : start.reply ≡ Done → BothGiven l (length cs) es × (sheet_of start.sheet cs' ≡ fresh (job_of l))
+  pub given_run : start.reply ≡ Ok tt → BothGiven l (length cs) es × (sheet_of start.sheet cs' ≡ fresh (job_of l))
   given_run so =
       ⊎_elim
       (λ (same : Alike (fresh_call l (length cs)) (run_outcome l (length cs) es)).
-      let refused-is : start ≡ record { reply = Refused same.refusal; sheet = blank_record } = is ∙ rw same.first in
+      let refused-is : start ≡ record { reply = Err same.refusal; sheet = blank_record } = is ∙ rw same.first in
       let z : ◌≡◌ {A = ℕ} 0 1 = cc in
       absurd (omega arith))
       (λ (both : BothGiven l (length cs) es).

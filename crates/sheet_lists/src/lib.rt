@@ -1,7 +1,7 @@
 // Lists of calls from a fresh sheet, each through the public calls: what demand 2 says of every such list holds of what this code leaves.
 #![tactic(auto)]
 
-ghost use Rattle.std.specs.Prelude.{◌≡◌, length};
+ghost use Rattle.std.specs.Prelude.{Ok, ◌≡◌, length};
 ghost use Rattle.model.specs.Lent.{lent_by, job_of};
 ghost use Rattle.model.specs.Calls.{counts_after};
 ghost use Rattle.model.specs.Cover.{afterwards, called, after_calls};
@@ -10,10 +10,9 @@ ghost use Rattle.sheet_calls.specs.Answers.{blank_record, sheet_answer};
 ghost use Rattle.sheet_refusals.specs.Causes.{sheet_of};
 ghost use Rattle.sheet_calls.specs.Ready.{SheetReady};
 ghost use Rattle.sheet_lists.specs.CallList.{call_of, calls_of, run_outcome};
-ghost use Rattle.model.specs.declared.DoneAnswer.TheVariants.{Done};
 
 use c_interface::{piece_with_turn, placement_of};
-use model::{DoneAnswer, JobSize, PieceEntry, Record};
+use model::{JobSize, PieceEntry, Record};
 use sheet_calls::SheetAnswer;
 
 // One call of a list (specs/CallList.antt says how five numbers are a call): the record after it.
@@ -52,10 +51,8 @@ fn run_from(
     ensures { sheet_of result counts.new ≡ after_calls (job_of (lent_by size table.now pixels.now)) (sheet_of first counts.old) (calls_of calls.now) }
 {
     let mut sheet = first;
-    let mut k = 0;
-    while k < calls.len() {
-        sheet = run_call(size, table, pixels, sheet, counts, calls[k]);
-        k += 1;
+    for call in calls {
+        sheet = run_call(size, table, pixels, sheet, counts, *call);
     }
     sheet
 }
@@ -70,16 +67,16 @@ pub fn run_calls(
 ) -> SheetAnswer
     ensures value { result ≡ sheet_answer blank_record (run_outcome (lent_by size table.now pixels.now) (length counts.old) calls.now) }
     ensures counts_after { counts.new ≡ counts_after counts.old (run_outcome (lent_by size table.now pixels.now) (length counts.old) calls.now) }
-    ensures cover_holds { result.reply ≡ Done → CoverHolds (job_of (lent_by size table.now pixels.now)) (calls_of calls.now) (sheet_of result.sheet counts.new) }
+    ensures cover_holds { result.reply ≡ Ok tt → CoverHolds (job_of (lent_by size table.now pixels.now)) (calls_of calls.now) (sheet_of result.sheet counts.new) }
 {
     let start = sheet_calls::fresh(size, table, pixels, counts);
     let reply = start.reply;
-    if let DoneAnswer::Refused(_) = reply {
+    if let Err(_) = reply {
         return start;
     }
     let first = start.sheet;
     let sheet = run_from(size, table, pixels, first, calls, counts);
-    let taken = DoneAnswer::Done;
+    let taken = Ok(());
     SheetAnswer {
         reply: taken,
         sheet,

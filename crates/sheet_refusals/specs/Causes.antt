@@ -1,5 +1,5 @@
--- Why a call on a sheet is refused, as a number: that of the first cause. Assumes nothing.
-use Rattle.std.specs.Prelude.{true, false, List, [], ◌∷◌, ℕ}
+-- The sheet that a call on it is given, and what every call asks first. Assumes nothing.
+use Rattle.std.specs.Prelude.{List, [], ◌∷◌, ℕ}
 use Rattle.model.specs.Lent.{Lent}
 use Rattle.model.specs.Refusal.{Cause}
 use Rattle.model.specs.Calls.{job_cause, counts_length}
@@ -9,11 +9,6 @@ use Rattle.model.specs.declared.Record.{Record}
 -- the sheet that a record and a count buffer make
 abbrev pub sheet_of : Record → List ℕ → Sheet
 sheet_of r counts = record { pieces = r.pieces; counts = counts }
-
--- the number of the first cause that is there, or 0
-unfoldable pub first_number : List Cause → ℕ
-first_number [] = 0
-first_number (c ∷ cs) = elim c.there [ true ↦ c.number | false ↦ first_number cs ]
 
 -- what every call asks first: 8 the job, 7 the length of the count buffer
 abbrev pub buffer_causes : Lent → ℕ → List Cause

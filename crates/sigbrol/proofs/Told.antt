@@ -1,5 +1,6 @@
 -- What an exported call makes of an answer. An answer tells an outcome, some of what is given left out; reply and lent memory follow from
 -- what is told. Assumes nothing.
+use Rattle.std.specs.Prelude.{Result, Ok, Err}
 use Rattle.list_laws.proofs.Kit.{◌∙◌, ◌≡◌, ap, refl, Bool, false, true, List, [], ◌∷◌, ◌<◌, ℕ, arith, length}
 use Rattle.model.specs.Piece.{coordinate_number}
 use Rattle.model.specs.Lent.{Lent}
@@ -11,9 +12,7 @@ use lib.Ieee.{Float}
 use Rattle.model.specs.declared.CutStep.{CutStep}
 use Rattle.model.specs.declared.CutStep.TheVariants.{Lift, Cut, Done}
 use Rattle.c_results.specs.Steps.{step_word, step_x, step_y, told_step}
-use Rattle.model.specs.declared.DoneAnswer.{DoneAnswer}
 use Rattle.model.specs.declared.Figures.{Figures}
-use Rattle.model.specs.declared.NumberAnswer.{NumberAnswer}
 use Rattle.model.specs.declared.JobSize.{JobSize}
 use Rattle.model.specs.declared.Line.{Line}
 use Rattle.model.specs.declared.Line.TheVariants.{InRow, InColumn}
@@ -21,23 +20,18 @@ use Rattle.model.specs.declared.Refusal.{Refusal}
 use Rattle.model.specs.Descent.{Descent}
 use Rattle.model.specs.Guided.{Guided}
 use Rattle.model.specs.Search.{Best}
+use Rattle.search_calls.specs.declared.BestPlace.{BestPlace}
 use Rattle.search_calls.specs.Answers.{search_answer}
-use Rattle.search_calls.specs.declared.SearchAnswer.{SearchAnswer}
 use Rattle.run_descent_calls.specs.Answers.{descent_answer, ended_of}
-use Rattle.run_descent_calls.specs.declared.DescentAnswer.{DescentAnswer}
 use Rattle.run_descent.specs.declared.Ended.{Ended}
 use Rattle.run_guided_calls.specs.Answers.{guided_answer}
-use Rattle.run_guided_calls.specs.declared.GuidedAnswer.{GuidedAnswer}
 use Rattle.run_guided_calls.specs.declared.RunTotals.{RunTotals}
 use Rattle.c_interface.specs.Replies.{reply_to}
 use Rattle.job_calls.specs.Reading.{read_answer}
-use Rattle.job_calls.specs.declared.JobAnswer.{JobAnswer}
+use Rattle.std.specs.Prelude.{Result, Ok, Err}
 use Rattle.cut_step_calls.specs.Answers.{step_answer}
-use Rattle.cut_step_calls.specs.declared.StepAnswer.{StepAnswer}
 use Rattle.layout_preview_calls.specs.Answers.{preview_answer}
-use Rattle.layout_preview_calls.specs.declared.PreviewAnswer.{PreviewAnswer}
 use Rattle.pair_calls.specs.Answers.{share_answer}
-use Rattle.pair_calls.specs.declared.ShareAnswer.{ShareAnswer}
 
 -- an outcome of which a part is told
 abbrev pub telling : {A B : Type 0} → (A → B) → Outcome A → Outcome B
@@ -93,57 +87,57 @@ refusal_told f (given a) r e = let z : ◌≡◌ {A = ℕ} 0 1 = cc in absurd (o
 -- ── what each answer tells ──
 
 -- that a call is done
-abbrev pub done_told : DoneAnswer → Outcome (Unit {0})
-done_told (DoneAnswer.Refused r) = refused r
-done_told DoneAnswer.Done = given tt
+abbrev pub done_told : (Result (Unit {0}) Refusal) → Outcome (Unit {0})
+done_told (Err r) = refused r
+done_told (Ok tt) = given tt
 
-pub done_told_lem : {A : Type 0} (o : Outcome A) {x : DoneAnswer} → x ≡ done_answer o → done_told x ≡ telling (λ a. tt) o
+pub done_told_lem : {A : Type 0} (o : Outcome A) {x : Result (Unit {0}) Refusal} → x ≡ done_answer o → done_told x ≡ telling (λ a. tt) o
 done_told_lem (refused r) e = ap done_told e
 done_told_lem (given a) e = ap done_told e
 
 -- a number
-abbrev pub number_told : NumberAnswer → Outcome ℕ
-number_told (NumberAnswer.Refused r) = refused r
-number_told (NumberAnswer.Number k) = given k
+abbrev pub number_told : (Result ℕ Refusal) → Outcome ℕ
+number_told (Err r) = refused r
+number_told (Ok k) = given k
 
-pub number_told_lem : (o : Outcome ℕ) {x : NumberAnswer} → x ≡ number_answer o → number_told x ≡ telling (λ k. k) o
+pub number_told_lem : (o : Outcome ℕ) {x : Result ℕ Refusal} → x ≡ number_answer o → number_told x ≡ telling (λ k. k) o
 number_told_lem (refused r) e = ap number_told e
 number_told_lem (given k) e = ap number_told e
 
 -- how many there are
-pub count_told : {A : Type 0} (o : Outcome (List A)) {x : NumberAnswer} → x ≡ count_answer o → number_told x ≡ telling (λ xs. length xs) o
+pub count_told : {A : Type 0} (o : Outcome (List A)) {x : Result ℕ Refusal} → x ≡ count_answer o → number_told x ≡ telling (λ xs. length xs) o
 count_told (refused r) e = ap number_told e
 count_told (given xs) e = ap number_told e
 
 -- how many pixels slid
-pub slid_told : (o : Outcome Compacted) {x : NumberAnswer} → x ≡ slid_answer o → number_told x ≡ telling (λ (a : Compacted). a.slid) o
+pub slid_told : (o : Outcome Compacted) {x : Result ℕ Refusal} → x ≡ slid_answer o → number_told x ≡ telling (λ (a : Compacted). a.slid) o
 slid_told (refused r) e = ap number_told e
 slid_told (given a) e = ap number_told e
 
 -- whether two pieces conflict
-abbrev pub share_told : ShareAnswer → Outcome Bool
-share_told (ShareAnswer.Refused r) = refused r
-share_told (ShareAnswer.Shares b) = given b
+abbrev pub share_told : Result Bool Refusal → Outcome Bool
+share_told (Err r) = refused r
+share_told (Ok b) = given b
 
-pub share_told_lem : (o : Outcome Bool) {x : ShareAnswer} → x ≡ share_answer o → share_told x ≡ telling (λ a. a) o
+pub share_told_lem : (o : Outcome Bool) {x : Result Bool Refusal} → x ≡ share_answer o → share_told x ≡ telling (λ a. a) o
 share_told_lem (refused r) e = ap share_told e
 share_told_lem (given a) e = ap share_told e
 
 -- the figures of a preview
-abbrev pub figures_told : PreviewAnswer → Outcome Figures
-figures_told (PreviewAnswer.Refused r) = refused r
-figures_told (PreviewAnswer.Shown f) = given f
+abbrev pub figures_told : Result Figures Refusal → Outcome Figures
+figures_told (Err r) = refused r
+figures_told (Ok f) = given f
 
-pub figures_told_lem : (o : Outcome Figures) {x : PreviewAnswer} → x ≡ preview_answer o → figures_told x ≡ telling (λ f. f) o
+pub figures_told_lem : (o : Outcome Figures) {x : Result Figures Refusal} → x ≡ preview_answer o → figures_told x ≡ telling (λ f. f) o
 figures_told_lem (refused r) e = ap figures_told e
 figures_told_lem (given f) e = ap figures_told e
 
 -- a step of the cut list
-abbrev pub step_told : StepAnswer → Outcome CutStep
-step_told (StepAnswer.Refused r) = refused r
-step_told (StepAnswer.Step t) = given t
+abbrev pub step_told : Result CutStep Refusal → Outcome CutStep
+step_told (Err r) = refused r
+step_told (Ok t) = given t
 
-pub step_told_lem : (o : Outcome CutStep) {x : StepAnswer} → x ≡ step_answer o → step_told x ≡ telling (λ a. a) o
+pub step_told_lem : (o : Outcome CutStep) {x : Result CutStep Refusal} → x ≡ step_answer o → step_told x ≡ telling (λ a. a) o
 step_told_lem (refused r) e = ap step_told e
 step_told_lem (given a) e = ap step_told e
 
@@ -151,30 +145,30 @@ step_told_lem (given a) e = ap step_told e
 abbrev pub size_in : Lent → JobSize
 size_in l = l.size
 
-abbrev pub job_told : JobAnswer → Outcome JobSize
-job_told (JobAnswer.Refused r) = refused r
-job_told (JobAnswer.Read s) = given s
+abbrev pub job_told : Result JobSize Refusal → Outcome JobSize
+job_told (Err r) = refused r
+job_told (Ok s) = given s
 
-pub job_told_lem : (o : Outcome Lent) {x : JobAnswer} → x ≡ read_answer o → job_told x ≡ telling size_in o
+pub job_told_lem : (o : Outcome Lent) {x : Result JobSize Refusal} → x ≡ read_answer o → job_told x ≡ telling size_in o
 job_told_lem (refused r) e = ap job_told e
 job_told_lem (given l) e = ap job_told e
 
 -- the best place on a line
-abbrev pub best_told : SearchAnswer → Outcome Best
-best_told (SearchAnswer.Refused r) = refused r
-best_told (SearchAnswer.Best sum place) = given (record { sum = sum; at = coordinate_number place })
+abbrev pub best_told : Result BestPlace Refusal → Outcome Best
+best_told (Err r) = refused r
+best_told (Ok b) = given (record { sum = b.sum; at = coordinate_number b.at })
 
-pub best_told_lem : (line : Line) (o : Outcome Best) {x : SearchAnswer} → x ≡ search_answer line o → best_told x ≡ telling (λ b. b) o
+pub best_told_lem : (line : Line) (o : Outcome Best) {x : Result BestPlace Refusal} → x ≡ search_answer line o → best_told x ≡ telling (λ b. b) o
 best_told_lem line (refused r) e = ap best_told e
 best_told_lem (InRow r) (given b) e = ap best_told e
 best_told_lem (InColumn c) (given b) e = ap best_told e
 
 -- how a descent ended
-abbrev pub ended_told : DescentAnswer → Outcome Ended
-ended_told (DescentAnswer.Refused r) = refused r
-ended_told (DescentAnswer.Ended e) = given e
+abbrev pub ended_told : Result Ended Refusal → Outcome Ended
+ended_told (Err r) = refused r
+ended_told (Ok e) = given e
 
-pub ended_told_lem : (o : Outcome Descent) {x : DescentAnswer} → x ≡ descent_answer o → ended_told x ≡ telling ended_of o
+pub ended_told_lem : (o : Outcome Descent) {x : Result Ended Refusal} → x ≡ descent_answer o → ended_told x ≡ telling ended_of o
 ended_told_lem (refused r) e = ap ended_told e
 ended_told_lem (given d) e = ap ended_told e
 
@@ -182,11 +176,11 @@ ended_told_lem (given d) e = ap ended_told e
 abbrev pub told_run : Guided → RunTotals
 told_run g = record { sum = g.sum; made = g.made; moves = g.moves }
 
-abbrev pub ran_told : GuidedAnswer → Outcome RunTotals
-ran_told (GuidedAnswer.Refused r) = refused r
-ran_told (GuidedAnswer.Ran run) = given run
+abbrev pub ran_told : Result RunTotals Refusal → Outcome RunTotals
+ran_told (Err r) = refused r
+ran_told (Ok run) = given run
 
-pub ran_told_lem : (o : Outcome Guided) {x : GuidedAnswer} → x ≡ guided_answer o → ran_told x ≡ telling told_run o
+pub ran_told_lem : (o : Outcome Guided) {x : Result RunTotals Refusal} → x ≡ guided_answer o → ran_told x ≡ telling told_run o
 ran_told_lem (refused r) e = ap ran_told e
 ran_told_lem (given g) e = ap ran_told e
 

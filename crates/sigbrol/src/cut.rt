@@ -13,8 +13,7 @@ ghost use Rattle.c_results.specs.Steps.{step_word, step_x, step_y, told_step};
 
 use c_interface::{Reply, done, refused, size_of};
 use c_results::put_step;
-use cut_step_calls::StepAnswer;
-use model::{LineEntry, NumberAnswer, PieceEntry, PlaceEntry};
+use model::{LineEntry, PieceEntry, PlaceEntry};
 
 // All lines to cut of a layout.
 #[unsafe(no_mangle)]
@@ -41,11 +40,11 @@ pub extern "C" fn sigbrol_cut_lines(
         layout,
         lines,
     ) {
-        NumberAnswer::Number(length) => {
+        Ok(length) => {
             *lines_count = length as usize;
             done()
         }
-        NumberAnswer::Refused(refusal) => refused(refusal),
+        Err(refusal) => refused(refusal),
     }
 }
 
@@ -79,11 +78,11 @@ pub extern "C" fn sigbrol_cut_step(
         pitch,
         step,
     ) {
-        StepAnswer::Step(taken) => {
+        Ok(taken) => {
             put_step(taken, word, x, y);
             done()
         }
-        StepAnswer::Refused(refusal) => refused(refusal),
+        Err(refusal) => refused(refusal),
     }
 }
 
@@ -105,10 +104,10 @@ pub extern "C" fn sigbrol_line_step(
     ensures exact { result.number ≡ 0 → StepExact (map entry_line lines.now) pitch step (told_step word.new x.new y.new) }
 {
     match cut_step_calls::line_step(lines, pitch, step) {
-        StepAnswer::Step(taken) => {
+        Ok(taken) => {
             put_step(taken, word, x, y);
             done()
         }
-        StepAnswer::Refused(refusal) => refused(refusal),
+        Err(refusal) => refused(refusal),
     }
 }

@@ -8,8 +8,7 @@ ghost use Rattle.c_interface.specs.Replies.{reply_to};
 
 use c_interface::{Reply, done, refused, size_of};
 use c_results::put_size;
-use job_calls::JobAnswer;
-use model::{DoneAnswer, PieceEntry};
+use model::PieceEntry;
 
 // Reads a job text: the numbers, the table and the pixels are filled.
 #[unsafe(no_mangle)]
@@ -31,11 +30,11 @@ pub extern "C" fn sigbrol_read_job(
     ensures gap { gap.new ≡ leaving (λ a. a.size.gap) gap.old (read_job text.now (length table.old) (length pixels.old)) }
 {
     match job_calls::read_job(text, table, pixels) {
-        JobAnswer::Read(size) => {
+        Ok(size) => {
             put_size(size, rows, columns, count, gap);
             done()
         }
-        JobAnswer::Refused(refusal) => refused(refusal),
+        Err(refusal) => refused(refusal),
     }
 }
 
@@ -62,7 +61,7 @@ pub extern "C" fn sigbrol_set_lock(
         piece,
         station,
     ) {
-        DoneAnswer::Done => done(),
-        DoneAnswer::Refused(refusal) => refused(refusal),
+        Ok(()) => done(),
+        Err(refusal) => refused(refusal),
     }
 }

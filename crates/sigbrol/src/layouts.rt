@@ -12,8 +12,8 @@ ghost use Rattle.c_interface.specs.Numbers.{lent_as, piece_with_turn};
 ghost use Rattle.c_interface.specs.Replies.{reply_to};
 
 use c_interface::{Reply, done, piece_with_turn, placement_of, refused, size_of};
-use layout_preview_calls::{PreviewAnswer, preview};
-use model::{DoneAnswer, NumberAnswer, PieceEntry, PlaceEntry};
+use layout_preview_calls::preview;
+use model::{PieceEntry, PlaceEntry};
 
 // The weighted sum of a layout.
 #[unsafe(no_mangle)]
@@ -38,11 +38,11 @@ pub extern "C" fn sigbrol_weighted_sum(
         layout,
         weights,
     ) {
-        NumberAnswer::Number(total) => {
+        Ok(total) => {
             *sum = total;
             done()
         }
-        NumberAnswer::Refused(refusal) => refused(refusal),
+        Err(refusal) => refused(refusal),
     }
 }
 
@@ -62,11 +62,11 @@ pub extern "C" fn sigbrol_plain_sum(
     ensures sum { sum.new ≡ leaving (λ a. a) sum.old (plain_sum_call (lent_as rows columns count gap table.now pixels.now) layout.now) }
 {
     match layout_sum_calls::plain_sum(size_of(rows, columns, count, gap), table, pixels, layout) {
-        NumberAnswer::Number(total) => {
+        Ok(total) => {
             *sum = total;
             done()
         }
-        NumberAnswer::Refused(refusal) => refused(refusal),
+        Err(refusal) => refused(refusal),
     }
 }
 
@@ -92,11 +92,11 @@ pub extern "C" fn sigbrol_used_length(
         pixels,
         layout,
     ) {
-        NumberAnswer::Number(length) => {
+        Ok(length) => {
             *used = length as usize;
             done()
         }
-        NumberAnswer::Refused(refusal) => refused(refusal),
+        Err(refusal) => refused(refusal),
     }
 }
 
@@ -132,12 +132,12 @@ pub extern "C" fn sigbrol_preview(
         piece_with_turn(turn, piece),
         placement_of(turn, x, y),
     ) {
-        PreviewAnswer::Shown(figures) => {
+        Ok(figures) => {
             *sum = figures.sum;
             *used = figures.length as usize;
             done()
         }
-        PreviewAnswer::Refused(refusal) => refused(refusal),
+        Err(refusal) => refused(refusal),
     }
 }
 
@@ -155,8 +155,8 @@ pub extern "C" fn sigbrol_check(
     ensures answer { result ≡ reply_to (check_call (lent_as rows columns count gap table.now pixels.now) layout.now) }
 {
     match layout_sum_calls::check(size_of(rows, columns, count, gap), table, pixels, layout) {
-        DoneAnswer::Done => done(),
-        DoneAnswer::Refused(refusal) => refused(refusal),
+        Ok(()) => done(),
+        Err(refusal) => refused(refusal),
     }
 }
 
@@ -176,8 +176,8 @@ pub extern "C" fn sigbrol_start(
     ensures layout { result.number ≡ 0 → StartClaims (job_of (lent_as rows columns count gap table.now pixels.now)) (layout_of layout.old) (layout_of layout.new) }
 {
     match layout_start_calls::start(size_of(rows, columns, count, gap), table, pixels, layout) {
-        DoneAnswer::Done => done(),
-        DoneAnswer::Refused(refusal) => refused(refusal),
+        Ok(()) => done(),
+        Err(refusal) => refused(refusal),
     }
 }
 
@@ -199,10 +199,10 @@ pub extern "C" fn sigbrol_compact(
     ensures claims { result.number ≡ 0 → CompactedClaims (lent_as rows columns count gap table.now pixels.now) layout.old layout.new slid.new }
 {
     match layout_compact_calls::compact(size_of(rows, columns, count, gap), table, pixels, layout) {
-        NumberAnswer::Number(total) => {
+        Ok(total) => {
             *slid = total;
             done()
         }
-        NumberAnswer::Refused(refusal) => refused(refusal),
+        Err(refusal) => refused(refusal),
     }
 }

@@ -10,7 +10,7 @@ ghost use Rattle.c_interface.specs.Replies.{reply_to};
 
 use c_interface::{Reply, done, piece_with_turn, refused, size_of};
 use layout_places::turn_or_zero;
-use model::{ColumnOffset, NumberAnswer, PieceEntry, RowOffset, StripEntry};
+use model::{ColumnOffset, PieceEntry, RowOffset, StripEntry};
 use pair_nofit_calls::PieceInTurn;
 
 // The no-fit row of two pieces at a row offset: the column offsets at which they conflict.
@@ -57,11 +57,11 @@ pub extern "C" fn sigbrol_no_fit_row(
         RowOffset(offset),
         runs,
     ) {
-        NumberAnswer::Number(found) => {
+        Ok(found) => {
             *runs_count = found as usize;
             done()
         }
-        NumberAnswer::Refused(refusal) => refused(refusal),
+        Err(refusal) => refused(refusal),
     }
 }
 
@@ -109,10 +109,10 @@ pub extern "C" fn sigbrol_no_fit_column(
         ColumnOffset(offset),
         runs,
     ) {
-        NumberAnswer::Number(found) => {
+        Ok(found) => {
             *runs_count = found as usize;
             done()
         }
-        NumberAnswer::Refused(refusal) => refused(refusal),
+        Err(refusal) => refused(refusal),
     }
 }

@@ -8,8 +8,7 @@ ghost use Rattle.c_interface.specs.Replies.{reply_to};
 
 use c_interface::{Reply, direction_of, done, refused, size_of};
 use c_results::bit_of;
-use model::{NumberAnswer, PieceEntry, PlaceEntry};
-use pair_calls::ShareAnswer;
+use model::{PieceEntry, PlaceEntry};
 
 // Whether two pieces of a layout conflict, which with a gap of 0 is to share a pixel: 1 or 0.
 #[unsafe(no_mangle)]
@@ -36,11 +35,11 @@ pub extern "C" fn sigbrol_shares_pixel(
         i,
         k,
     ) {
-        ShareAnswer::Shares(yes) => {
+        Ok(yes) => {
             *shares = bit_of(yes);
             done()
         }
-        ShareAnswer::Refused(refusal) => refused(refusal),
+        Err(refusal) => refused(refusal),
     }
 }
 
@@ -64,11 +63,11 @@ pub extern "C" fn sigbrol_depth(
 {
     let size = size_of(rows, columns, count, gap);
     match pair_calls::depth(size, table, pixels, layout, i, k, direction_of(vertical)) {
-        NumberAnswer::Number(amount) => {
+        Ok(amount) => {
             *depth = amount as u32;
             done()
         }
-        NumberAnswer::Refused(refusal) => refused(refusal),
+        Err(refusal) => refused(refusal),
     }
 }
 
@@ -97,10 +96,10 @@ pub extern "C" fn sigbrol_penalty(
         i,
         k,
     ) {
-        NumberAnswer::Number(amount) => {
+        Ok(amount) => {
             *penalty = amount as u32;
             done()
         }
-        NumberAnswer::Refused(refusal) => refused(refusal),
+        Err(refusal) => refused(refusal),
     }
 }

@@ -14,9 +14,6 @@ use c_interface::{Reply, done, line_of, piece_with_turn, refused, size_of};
 use c_results::{coordinate_number, end_number, put_run};
 use layout_places::turn_or_zero;
 use model::{PieceEntry, PlaceEntry};
-use run_descent_calls::DescentAnswer;
-use run_guided_calls::GuidedAnswer;
-use search_calls::SearchAnswer;
 
 // The best place of a piece on a line.
 #[unsafe(no_mangle)]
@@ -51,12 +48,12 @@ pub extern "C" fn sigbrol_line_search(
         turn_or_zero(turn),
         line_of(vertical, held),
     ) {
-        SearchAnswer::Best(least, place) => {
-            *sum = least;
-            *at = coordinate_number(place);
+        Ok(best) => {
+            *sum = best.sum;
+            *at = coordinate_number(best.at);
             done()
         }
-        SearchAnswer::Refused(refusal) => refused(refusal),
+        Err(refusal) => refused(refusal),
     }
 }
 
@@ -96,7 +93,7 @@ pub extern "C" fn sigbrol_descent(
         budget,
         workspace,
     ) {
-        DescentAnswer::Ended(ended) => {
+        Ok(ended) => {
             let how = ended.end;
             *end = end_number(how);
             put_run(
@@ -109,7 +106,7 @@ pub extern "C" fn sigbrol_descent(
             );
             done()
         }
-        DescentAnswer::Refused(refusal) => refused(refusal),
+        Err(refusal) => refused(refusal),
     }
 }
 
@@ -144,10 +141,10 @@ pub extern "C" fn sigbrol_guided_run(
     match run_guided_calls::guided_run(
         size, table, pixels, layout, weights, rounds, budget, workspace,
     ) {
-        GuidedAnswer::Ran(run) => {
+        Ok(run) => {
             put_run(run.sum, run.made, run.moves, sum, trials, moves);
             done()
         }
-        GuidedAnswer::Refused(refusal) => refused(refusal),
+        Err(refusal) => refused(refusal),
     }
 }

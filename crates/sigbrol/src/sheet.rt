@@ -9,7 +9,7 @@ ghost use Rattle.c_interface.specs.Replies.{reply_to};
 
 use c_interface::record::{read_record, write_record};
 use c_interface::{Reply, done, piece_with_turn, placement_of, refused, size_of};
-use model::{DoneAnswer, PIECE_BOUND, PieceEntry};
+use model::{PIECE_BOUND, PieceEntry};
 
 // A fresh sheet: nothing is laid and all counts are 0.
 #[unsafe(no_mangle)]
@@ -30,11 +30,11 @@ pub extern "C" fn sigbrol_fresh(
     let answer = sheet_calls::fresh(size_of(rows, columns, count, gap), table, pixels, counts);
     let reply = answer.reply;
     match reply {
-        DoneAnswer::Done => {
+        Ok(()) => {
             write_record(entries, answer.sheet);
             done()
         }
-        DoneAnswer::Refused(refusal) => refused(refusal),
+        Err(refusal) => refused(refusal),
     }
 }
 
@@ -69,11 +69,11 @@ pub extern "C" fn sigbrol_lay(
     );
     let reply = answer.reply;
     match reply {
-        DoneAnswer::Done => {
+        Ok(()) => {
             write_record(entries, answer.sheet);
             done()
         }
-        DoneAnswer::Refused(refusal) => refused(refusal),
+        Err(refusal) => refused(refusal),
     }
 }
 
@@ -105,10 +105,10 @@ pub extern "C" fn sigbrol_withdraw(
     );
     let reply = answer.reply;
     match reply {
-        DoneAnswer::Done => {
+        Ok(()) => {
             write_record(entries, answer.sheet);
             done()
         }
-        DoneAnswer::Refused(refusal) => refused(refusal),
+        Err(refusal) => refused(refusal),
     }
 }

@@ -9,7 +9,7 @@ ghost use Rattle.c_interface.specs.Replies.{reply_to};
 ghost use Rattle.sigbrol.specs.Places.{start_in, stretch_start};
 
 use c_interface::{Reply, direction_of, done, refused, size_of};
-use model::{DoneAnswer, PieceEntry, StripEntry};
+use model::{PieceEntry, StripEntry};
 
 // Fills the row store and the column store of a job in given turns, each with its starts.
 #[unsafe(no_mangle)]
@@ -40,8 +40,8 @@ pub extern "C" fn sigbrol_strips(
         column_strips,
         column_starts,
     ) {
-        DoneAnswer::Done => done(),
-        DoneAnswer::Refused(refusal) => refused(refusal),
+        Ok(()) => done(),
+        Err(refusal) => refused(refusal),
     }
 }
 
@@ -150,7 +150,7 @@ pub extern "C" fn sigbrol_rebuild(
     ensures again { Again (direction_of vertical) columns rows strips.now pixels.old pixels.new }
 {
     match strip_rebuild_calls::rebuild(columns, rows, direction_of(vertical), strips, pixels) {
-        DoneAnswer::Done => done(),
-        DoneAnswer::Refused(refusal) => refused(refusal),
+        Ok(()) => done(),
+        Err(refusal) => refused(refusal),
     }
 }

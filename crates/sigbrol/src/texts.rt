@@ -8,7 +8,7 @@ ghost use Rattle.c_interface.specs.Numbers.{lent_as};
 ghost use Rattle.c_interface.specs.Replies.{reply_to};
 
 use c_interface::{Reply, done, refused, size_of};
-use model::{DoneAnswer, NumberAnswer, PieceEntry, PlaceEntry};
+use model::{PieceEntry, PlaceEntry};
 
 // Writes a layout as text, and how many bytes it has.
 #[unsafe(no_mangle)]
@@ -34,11 +34,11 @@ pub extern "C" fn sigbrol_write_layout(
         layout,
         text,
     ) {
-        NumberAnswer::Number(length) => {
+        Ok(length) => {
             *written = length as usize;
             done()
         }
-        NumberAnswer::Refused(refusal) => refused(refusal),
+        Err(refusal) => refused(refusal),
     }
 }
 
@@ -64,8 +64,8 @@ pub extern "C" fn sigbrol_read_layout(
         text,
         layout,
     ) {
-        DoneAnswer::Done => done(),
-        DoneAnswer::Refused(refusal) => refused(refusal),
+        Ok(()) => done(),
+        Err(refusal) => refused(refusal),
     }
 }
 
@@ -84,10 +84,10 @@ pub extern "C" fn sigbrol_program(
     ensures fits { length (program_text input.now) ≤ output_bound }
 {
     match program_calls::print_run(input, output, workspace) {
-        NumberAnswer::Number(count) => {
+        Ok(count) => {
             *written = count as usize;
             done()
         }
-        NumberAnswer::Refused(refusal) => refused(refusal),
+        Err(refusal) => refused(refusal),
     }
 }

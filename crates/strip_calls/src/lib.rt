@@ -1,7 +1,7 @@
 // The stores of a job's strips (document 01, 'Strips'): the strips call fills them, the stretch call hands out one piece's part.
 #![tactic(auto)]
 
-use model::{DoneAnswer, JobSize, PieceEntry, StripEntry, refused};
+use model::{JobSize, PieceEntry, Refusal, StripEntry, refused};
 use strip_store::fill::room_for;
 
 mod compare;
@@ -25,7 +25,7 @@ pub fn strips(
     row_starts: &mut [u32],
     column_strips: &mut [StripEntry],
     column_starts: &mut [u32],
-) -> DoneAnswer
+) -> Result<(), Refusal>
     ensures answer { result ≡ done_answer (strips_call (lent_by size table.now pixels.now) turns.now (stores_by row_strips.old row_starts.old column_strips.old column_starts.old)) }
     ensures memory { stores_by row_strips.new row_starts.new column_strips.new column_starts.new ≡ stores_after (stores_by row_strips.old row_starts.old column_strips.old column_starts.old) (strips_call (lent_by size table.now pixels.now) turns.now (stores_by row_strips.old row_starts.old column_strips.old column_starts.old)) }
 {
@@ -50,5 +50,5 @@ pub fn strips(
         column_strips,
         column_starts,
     );
-    DoneAnswer::Done
+    Ok(())
 }

@@ -14,12 +14,5 @@ pub fn wrong(size: JobSize, table: &[PieceEntry], turns: &[u16]) -> bool
     if turns.len() != size.count {
         return true;
     }
-    let mut i = 0;
-    while i < size.count {
-        if !layout_places::allowed_degrees(table, i, turns[i]) {
-            return true;
-        }
-        i += 1;
-    }
-    false
+    (0..size.count).any(|i| !layout_places::allowed_degrees(table, i, turns[i]))
 }

@@ -39,21 +39,15 @@ fn line_count(direction: Direction, columns: usize, rows: usize) -> usize
     }
 }
 
-// A byte as a wide number.
-fn wide(byte: u8) -> usize
-    ensures { (result ≡ byte) × (result ≤ 255) }
-{
-    byte as usize
-}
-
 // An entry of a buffer as a strip.
 fn strip_of(entry: StripEntry) -> Strip
     ensures { ReadOf entry result }
 {
+    let [line, first, count] = entry;
     Strip {
-        line: wide(entry[0]),
-        first: wide(entry[1]),
-        count: wide(entry[2]),
+        line: usize::from(line),
+        first: usize::from(first),
+        count: usize::from(count),
     }
 }
 
@@ -109,32 +103,14 @@ fn valid(strips: &[StripEntry], length: usize, lines: usize) -> bool
     ensures tested { result ≡ all_below (lib.ListN.length strips.now) (well_at length lines strips.now) }
     ensures whole { result ≡ true → Whole strips.now (lib.ListN.length strips.now) }
 {
-    let mut i = 0;
-    while i < strips.len() {
-        if !fits(strip_at(strips, i), length, lines) {
-            return false;
-        }
-        if !in_order(strips, i) {
-            return false;
-        }
-        i += 1;
-    }
-    true
+    (0..strips.len()).all(|i| fits(strip_at(strips, i), length, lines) && in_order(strips, i))
 }
 
 // Some strip lies in the line.
 fn on_line(strips: &[StripEntry], line: usize) -> bool
     ensures { result ≡ any_below (length strips.now) (λ i. eqb (strip_in strips.now i).line line) }
 {
-    let mut i = 0;
-    while i < strips.len() {
-        let strip = strip_at(strips, i);
-        if strip.line == line {
-            return true;
-        }
-        i += 1;
-    }
-    false
+    (0..strips.len()).any(|i| strip_at(strips, i).line == line)
 }
 
 // The strip holds the place along its line.
@@ -152,14 +128,7 @@ fn reaches_place(strip: Strip, place: usize) -> bool
 fn at_place(strips: &[StripEntry], place: usize) -> bool
     ensures { result ≡ any_below (length strips.now) (λ i. reaches place (strip_in strips.now i)) }
 {
-    let mut i = 0;
-    while i < strips.len() {
-        if reaches_place(strip_at(strips, i), place) {
-            return true;
-        }
-        i += 1;
-    }
-    false
+    (0..strips.len()).any(|i| reaches_place(strip_at(strips, i), place))
 }
 
 // Some piece of the box has just these strips: they are valid, and the outer lines both ways hold a pixel.

@@ -1,16 +1,14 @@
 -- Setting pixels in a buffer of rows: one pixel, a strip pixel after pixel, all strips, and the bytes that are left. What is still
 -- to be set is said by a test on points, so that each loop shows only how its test is taken apart. Assumes nothing.
-use Rattle.list_laws.proofs.Kit.{◌∙◌, ◌≡◌, ap, ap₂, refl, sym, Bool, ◌&&◌, ◌||◌, false, true, ⊎_elim, List, [], ◌*◌, ◌+◌, ◌-◌, ◌<◌, ◌≤◌, suc, ℕ, mul_comm}
-use Rattle.list_laws.proofs.Kit.{arith, eqb, leb, get_or-map, drop, drop_of_length-le, get_or, length, length-map, length-set, set, drop-cons}
-use Rattle.list_laws.proofs.Kit.{get_or-set_other, get_or-set_same, eq-eqb, eqb-true, le-leb, leb-true, lt-ltb, ltb-true}
-use Rattle.model.specs.Piece.{Point, along, across, point, other}
+use Rattle.list_laws.proofs.Kit.{◌∙◌, ◌≡◌, ap, ap₂, refl, sym, Bool, ◌&&◌, ◌||◌, false, true, ⊎_elim, List, [], ◌*◌, ◌+◌, ◌-◌, ◌<◌, ◌≤◌, suc, ℕ}
+use Rattle.list_laws.proofs.Kit.{arith, eqb, get_or-map, drop, drop_of_length-le, get_or, length, length-map, length-set, set, drop-cons}
+use Rattle.list_laws.proofs.Kit.{get_or-set_other, get_or-set_same, eq-eqb, eqb-true}
+use Rattle.model.specs.Piece.{Point}
 use Rattle.model.specs.Strip.{Strip, strip_has, strips_have}
 use Rattle.model.specs.Buffer.{entry_strip}
 use Rattle.model.specs.declared.Direction.{Direction}
-use Rattle.model.specs.declared.Direction.TheVariants.{Horizontal, Vertical}
-use Rattle.list_laws.proofs.Tests.{and_left, and_right, and_both, or_cases, or_left, or_right, same_tests, fails, clash}
+use Rattle.list_laws.proofs.Tests.{and_left, and_right, and_both, clash}
 use Rattle.list_laws.proofs.Numbers.{in_rows_lem, below_or}
-use Rattle.strip_laws.specs.Strips.{side}
 use Rattle.strip_check.specs.Check.{strip_in}
 use Rattle.strip_paint.specs.Paint.{over, same_point, Painted, PaintRoom}
 use Rattle.strip_check.proofs.Validity.{strips_of}
@@ -61,10 +59,6 @@ pub record Painting (l : ℕ) (all : Point → Bool) (before present : List ℕ)
   pub bytes : (x y : ℕ) → x < l
       → over (left (record { x = x; y = y })) (get_or present (y * l + x) 0) ≡ over (all (record { x = x; y = y })) (get_or before (y * l + x) 0)
 
--- at first all are left
-pub paint_start : {l : ℕ} {all left : Point → Bool} (before : List ℕ) → ((p : Point) → left p ≡ all p) → Painting l all before before left
-paint_start {l} before e = record { long = refl; bytes = λ x y a. ap (λ b. over b (get_or before (y * l + x) 0)) (e (record { x = x; y = y })) }
-
 over_over : (a b : Bool) (k : ℕ) → over b (over a k) ≡ over (a || b) k
 over_over true true k = refl
 over_over true false k = refl
@@ -97,67 +91,6 @@ paint_end {l} {all} {left} {before} {present} e g =
 abbrev pub part_of : Strip → ℕ → ℕ → Strip
 part_of t at end = record { line = t.line; first = at; count = end - at }
 
--- a point in a strip, by its coordinates
-has_from : (d : Direction) (t : Strip) (p : Point) → strip_has d t p ≡ true
-    → (t.line ≡ across d p) × (t.first ≤ along d p) × (along d p < t.first + t.count)
-has_from d t p e =
-    let line : Bool = eqb t.line (across d p) in
-    let low : Bool = leb t.first (along d p) in
-    let both : (line && low) ≡ true = and_left (line && low) _ e in
-    (eqb-true _ _ (and_left line low both), leb-true _ _ (and_right line low both), ltb-true _ _ (and_right (line && low) _ e))
-
-has_to : (d : Direction) (t : Strip) (p : Point) → t.line ≡ across d p → t.first ≤ along d p → along d p < t.first + t.count
-    → strip_has d t p ≡ true
-has_to d t p a b c = and_both (and_both (eq-eqb _ _ a) (le-leb _ _ b)) (lt-ltb _ _ c)
-
--- a point is one by its coordinates along and across
-point_from : (d : Direction) (a c : ℕ) (p : Point) → same_point (point d a c) p ≡ true → (a ≡ along d p) × (c ≡ across d p)
-point_from Horizontal a c p e = (eqb-true _ _ (and_left _ _ e), eqb-true _ _ (and_right (eqb a p.x) _ e))
-point_from Vertical a c p e = (eqb-true _ _ (and_right (eqb c p.x) _ e), eqb-true _ _ (and_left _ _ e))
-
-point_to : (d : Direction) (a c : ℕ) (p : Point) → a ≡ along d p → c ≡ across d p → same_point (point d a c) p ≡ true
-point_to Horizontal a c p e f = and_both (eq-eqb _ _ e) (eq-eqb _ _ f)
-point_to Vertical a c p e f = and_both (eq-eqb _ _ f) (eq-eqb _ _ e)
-
--- a part of a strip is its first pixel and the part behind it
-pub part_step : (d : Direction) (t : Strip) (at end : ℕ) → at < end → (p : Point)
-    → strip_has d (part_of t at end) p ≡ (same_point (point d at t.line) p || strip_has d (part_of t (at + 1) end) p)
-part_step d t at end l p =
-    same_tests _ _
-    (λ e.
-    let h = has_from d (part_of t at end) p e in
-    let low : at ≤ along d p = h.1 in
-    let high : along d p < at + (end - at) = h.2 in
-    ⊎_elim (λ (q : at < along d p). or_right (same_point (point d at t.line) p) _ (has_to d (part_of t (at + 1) end) p h.0 (omega arith) (omega arith)))
-    (λ (q : along d p ≤ at). or_left _ _ (point_to d at t.line p (omega arith) h.0))
-    (below_or at (along d p)))
-    (λ e.
-    ⊎_elim
-    (λ (q : same_point (point d at t.line) p ≡ true).
-    let h = point_from d at t.line p q in
-    let a : at ≡ along d p = h.0 in
-    has_to d (part_of t at end) p h.1 (omega arith) (omega arith))
-    (λ (q : strip_has d (part_of t (at + 1) end) p ≡ true).
-    let h = has_from d (part_of t (at + 1) end) p q in
-    let low : at + 1 ≤ along d p = h.1 in
-    let high : along d p < (at + 1) + (end - (at + 1)) = h.2 in
-    has_to d (part_of t at end) p h.0 (omega arith) (omega arith))
-    (or_cases (same_point (point d at t.line) p) _ e))
-
--- past its end a strip has no part
-pub part_none : (d : Direction) (t : Strip) (at end : ℕ) → end ≤ at → (p : Point) → strip_has d (part_of t at end) p ≡ false
-part_none d t at end l p =
-    fails (strip_has d (part_of t at end) p)
-    (λ e.
-    let h = has_from d (part_of t at end) p e in
-    let low : at ≤ along d p = h.1 in
-    let high : along d p < at + (end - at) = h.2 in
-    omega arith)
-
--- a strip from its first place on is the strip
-pub part_whole : (d : Direction) (t : Strip) (p : Point) → strip_has d (part_of t t.first (t.first + t.count)) p ≡ strip_has d t p
-part_whole d t p = let e : t.first + t.count - t.first ≡ t.count = omega arith in rw e
-
 -- ── all strips ──
 
 -- the strips from a place on are the strip there and those behind it
@@ -181,18 +114,7 @@ strips_none d es i h p =
     let n : length (strips_of es) ≤ i = rw (length-map es entry_strip) h in
     rw (drop_of_length-le (strips_of es) n)
 
--- ── cells of a fitting strip ──
-
--- the sides of a box whose sides are in range
-pub side_small : (d : Direction) (l w : ℕ) → l ≤ 255 → w ≤ 255 → side d l w ≤ 255
-side_small Horizontal l w a b = a
-side_small Vertical l w a b = b
-
--- a cell in the box has a place in the buffer
-pub cell_room : (d : Direction) (l w a c : ℕ) (pixels : List ℕ) → l * w ≤ length pixels → a < side d l w → c < side (other d) l w
-    → ((point d a c).x < l) × ((point d a c).y * l + (point d a c).x < length pixels)
-cell_room Horizontal l w a c pixels r h k = (h, let q = in_rows_lem {l = l} {w = w} {x = a} {y = c} h k in omega (arith, mul_comm l w))
-cell_room Vertical l w a c pixels r h k = (k, let q = in_rows_lem {l = l} {w = w} {x = c} {y = a} k h in omega (arith, mul_comm l w))
+-- ── room ──
 
 -- a buffer of the same length has room too
 pub room_again : {l w : ℕ} {pixels others : List ℕ} → PaintRoom l w pixels → length others ≡ length pixels → PaintRoom l w others

@@ -38,10 +38,8 @@ fn paint_strip(pixels: &mut [u8], columns: usize, rows: usize, direction: Direct
     ensures { Painted columns (strip_has direction (as_strip strip)) pixels.old pixels.new }
 {
     let end = strip.first + strip.count;
-    let mut at = strip.first;
-    while at < end {
+    for at in strip.first..end {
         mark_cell(pixels, columns, direction, at, strip.line);
-        at += 1;
     }
 }
 
@@ -56,10 +54,8 @@ fn paint_strips(
     requires { PaintRoom columns rows pixels.old × ((i : ℕ) → i < length strips.now → StripFits direction columns rows (strip_in strips.now i)) }
     ensures { Painted columns (strips_have direction (map entry_strip strips.now)) pixels.old pixels.new }
 {
-    let mut i = 0;
-    while i < strips.len() {
+    for i in 0..strips.len() {
         paint_strip(pixels, columns, rows, direction, strip_at(strips, i));
-        i += 1;
     }
 }
 
@@ -68,11 +64,7 @@ fn clear(pixels: &mut [u8], area: usize)
     requires { area ≤ length pixels.old }
     ensures { pixels.new ≡ replicate area 0 ++ drop area pixels.old }
 {
-    let mut k = 0;
-    while k < area {
-        pixels[k] = 0;
-        k += 1;
-    }
+    pixels[..area].fill(0);
 }
 
 // Writes the pixel bytes of the set that the strips make.

@@ -8,7 +8,7 @@ ghost use Rattle.model.specs.Lent.{up_to};
 ghost use Rattle.model.specs.Piece.{side_bound};
 ghost use Rattle.strip_rebuild_calls.specs.Again.{Again};
 
-use model::{Direction, DoneAnswer, StripEntry, refused};
+use model::{Direction, Refusal, StripEntry, refused};
 
 // The most pixels along a box side, as a side is handed over.
 const SIDE_BOUND: u16 = model::SIDE_BOUND as u16;
@@ -30,7 +30,7 @@ pub fn rebuild(
     direction: Direction,
     strips: &[StripEntry],
     pixels: &mut [u8],
-) -> DoneAnswer
+) -> Result<(), Refusal>
     ensures answer { result ≡ done_answer (rebuild_call direction columns rows strips.now (length pixels.old)) }
     ensures memory { pixels.new ≡ pixels_after pixels.old (rebuild_call direction columns rows strips.now (length pixels.old)) }
     ensures again { Again direction columns rows strips.now pixels.old pixels.new }
@@ -50,5 +50,5 @@ pub fn rebuild(
         return refused(7);
     }
     strip_paint::write(direction, columns, rows, strips, pixels);
-    DoneAnswer::Done
+    Ok(())
 }

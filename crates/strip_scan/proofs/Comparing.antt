@@ -1,11 +1,11 @@
 -- Strips compared with a store one by one: what is left of them is still to be compared. Assumes nothing.
 use Rattle.list_laws.proofs.Kit.{◌∙◌, ◌≡◌, ap, ap₂, refl, sym, ◌&&◌, false, true, ⊎_elim, List, [], ◌∷◌, ◌+◌, ◌<◌, ◌≤◌, suc, ℕ, arith, eqb, ltb}
+use Rattle.std.specs.Prelude.{Some, None}
 use Rattle.list_laws.proofs.Kit.{get_or-eq_default, drop_of_length-le, get_or, length, drop-cons, ltb-false, ltb-true}
 use Rattle.model.specs.Strip.{Strip}
 use Rattle.model.specs.Buffer.{strip_entry, same_numbers, same_entries}
 use Rattle.list_laws.proofs.Tests.{decided}
 use Rattle.strip_scan.specs.Compare.{stand_in, compared_by, compared}
-use Rattle.strip_scan.specs.declared.compare.Compared.TheVariants.{Until, Unlike}
 
 -- a list of three numbers compared with three numbers
 pub same_three : (e : List ℕ) (a b c : ℕ) → length e ≡ 3
@@ -60,7 +60,7 @@ compare_step {all} {left} {rest} {store} {begin} {at} {t} e s g =
 
 -- the first of them does not
 pub compare_unlike : {all left rest : List Strip} {store : List (List ℕ)} {begin at : ℕ} {t : Strip} → left ≡ t ∷ rest
-    → same_numbers (get_or store at []) (strip_entry t) ≡ false → Comparing all store begin at left → Unlike ≡ compared all store begin
+    → same_numbers (get_or store at []) (strip_entry t) ≡ false → Comparing all store begin at left → None ≡ compared all store begin
 unfolding compared
 compare_unlike {all} {left} {rest} {store} {begin} {at} {t} e s g =
     let f : stand_in all store begin ≡ false =
@@ -69,7 +69,7 @@ compare_unlike {all} {left} {rest} {store} {begin} {at} {t} e s g =
 
 -- none is left
 pub compare_end : {all left : List Strip} {store : List (List ℕ)} {begin at : ℕ} → left ≡ []
-    → Comparing all store begin at left → Until at ≡ compared all store begin
+    → Comparing all store begin at left → Some at ≡ compared all store begin
 unfolding compared same_entries
 compare_end {all} {left} {store} {begin} {at} e g =
     let c : at + 0 ≡ begin + length all = rw e at g.counted in

@@ -5,7 +5,6 @@ use Rattle.job_laws.proofs.Turned.{turned_area}
 use Rattle.model.specs.Piece.{Shape, turned, extent, other, cell}
 use Rattle.model.specs.Strip.{Run, closing, runs_from, strips_from, strips}
 use Rattle.model.specs.declared.Turn.{Turn}
-use Rattle.model.specs.declared.Turn.TheVariants.{Zero, Quarter, Half, ThreeQuarters}
 use Rattle.model.specs.declared.Direction.{Direction}
 use Rattle.model.specs.declared.Direction.TheVariants.{Horizontal, Vertical}
 use Rattle.piece_pixels.specs.Turned.{stored_by, shown_by, SmallPiece}

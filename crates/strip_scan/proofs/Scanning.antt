@@ -3,15 +3,13 @@
 use Rattle.list_laws.proofs.Kit.{◌∙◌, ◌≡◌, ap, refl, subst₂, sym, Bool, bool_beq, false, true, true≢false, ⊎_elim, List, [], ◌∷◌, ◌+◌, ◌-◌, ◌<◌, ◌≤◌, suc}
 use Rattle.list_laws.proofs.Kit.{zero, ℕ, add-suc, add-zero, eq-or-lt_of_le, suc-add, zero-add, arith}
 use Rattle.model.specs.Bounded.{first_from}
-use Rattle.model.specs.Piece.{Shape, turned, extent, other, cell}
+use Rattle.model.specs.Piece.{Shape, extent, other, cell}
 use Rattle.model.specs.Strip.{Run, closing, runs_from, strips_from, strips}
-use Rattle.model.specs.declared.Turn.{Turn}
-use Rattle.model.specs.declared.Turn.TheVariants.{Zero, Quarter, Half, ThreeQuarters}
 use Rattle.model.specs.declared.Direction.{Direction}
 use Rattle.model.specs.declared.Direction.TheVariants.{Horizontal, Vertical}
 use Rattle.list_laws.proofs.Tests.{clash}
 use Rattle.list_laws.proofs.Bounded.{First, first_from_lem}
-use Rattle.piece_pixels.specs.Turned.{stored_by, shown_by, SmallPiece}
+use Rattle.piece_pixels.specs.Turned.{shown_by}
 use Rattle.piece_pixels.specs.declared.Sides.{Sides}
 use Rattle.piece_pixels.specs.declared.TurnedPiece.{TurnedPiece}
 use Rattle.piece_pixels.proofs.Cells.{shown_sides}
@@ -23,20 +21,6 @@ use Rattle.strip_scan.specs.Scan.{turned_side, strips_in, strips_at, NextStripIs
 pub side_of_lem : (d : Direction) (pixels : List ℕ) (p : TurnedPiece) → turned_side d p ≡ extent d (shown_by pixels p)
 side_of_lem Horizontal pixels p = ap (λ (s : Sides). s.columns) (shown_sides pixels p)
 side_of_lem Vertical pixels p = ap (λ (s : Sides). s.rows) (shown_sides pixels p)
-
--- the sides of a small box are small
-small_side : (d : Direction) (t : Turn) (p : TurnedPiece) → SmallPiece p → extent d (turned t (stored_by [] p)) ≤ 255
-small_side Horizontal Zero p s = s.columns
-small_side Horizontal Quarter p s = s.rows
-small_side Horizontal Half p s = s.columns
-small_side Horizontal ThreeQuarters p s = s.rows
-small_side Vertical Zero p s = s.rows
-small_side Vertical Quarter p s = s.columns
-small_side Vertical Half p s = s.rows
-small_side Vertical ThreeQuarters p s = s.columns
-
-pub side_small : (d : Direction) (p : TurnedPiece) → SmallPiece p → turned_side d p ≤ 255
-side_small d p s = small_side d p.turn p s
 
 -- ── the runs of a line ──
 

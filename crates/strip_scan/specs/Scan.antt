@@ -1,12 +1,11 @@
 -- The strips of a turned piece from a cell on. Assumes nothing.
-use Rattle.std.specs.Prelude.{List, [], ◌∷◌, ◌++◌, map, ◌≡◌, ℕ, zero, suc, ◌+◌, ◌-◌, ◌≤◌, ◌<◌}
+use Rattle.std.specs.Prelude.{List, [], ◌∷◌, ◌++◌, map, ◌≡◌, ℕ, zero, suc, ◌+◌, ◌-◌, ◌≤◌, ◌<◌, Option, Some, None}
 use Rattle.model.specs.Piece.{Shape, extent, other, cell}
 use Rattle.model.specs.Strip.{Strip, strip_of, runs_from, strips_from}
 use Rattle.model.specs.declared.Direction.{Direction}
 use Rattle.piece_pixels.specs.Turned.{shown_by}
 use Rattle.piece_pixels.specs.declared.TurnedPiece.{TurnedPiece}
-use Rattle.strip_scan.specs.declared.scan.NextStrip.{NextStrip}
-use Rattle.strip_scan.specs.declared.scan.NextStrip.TheVariants.{Found, Done}
+use Rattle.strip_scan.specs.declared.scan.FoundStrip.{FoundStrip}
 
 -- the turned box's pixels along the direction
 abbrev pub turned_side : Direction → TurnedPiece → ℕ
@@ -27,7 +26,11 @@ pub record NextStripIs (d : Direction) (s : Shape) (c a : ℕ) (t : Strip) : Typ
   pub within : t.first + t.count ≤ extent d s
   pub line : t.line < extent (other d) s
 
+-- a strip as it is found
+abbrev pub found_strip : FoundStrip → Strip
+found_strip t = record { line = t.line; first = t.first; count = t.count }
+
 -- what reading on finds, from cell a of line c on
-abbrev pub NextIs : Direction → List ℕ → TurnedPiece → ℕ → ℕ → NextStrip → Type 0
-NextIs d pixels p c a (Found line first count) = NextStripIs d (shown_by pixels p) c a (record { line = line; first = first; count = count })
-NextIs d pixels p c a Done = strips_at d (shown_by pixels p) c a ≡ []
+abbrev pub NextIs : Direction → List ℕ → TurnedPiece → ℕ → ℕ → Option FoundStrip → Type 0
+NextIs d pixels p c a (Some found) = NextStripIs d (shown_by pixels p) c a (found_strip found)
+NextIs d pixels p c a None = strips_at d (shown_by pixels p) c a ≡ []

@@ -10,16 +10,9 @@ ghost use Rattle.job_laws.specs.Entries.{EntryAt};
 ghost use Rattle.piece_pixels.specs.Turned.{shown_by, SmallPiece};
 ghost use Rattle.strip_scan.specs.Compare.{compared};
 
-use super::scan::{NextStrip, next_strip};
+use super::scan::next_strip;
 use model::{Direction, PieceEntry, StripEntry, Turn};
 use piece_pixels::{TurnedPiece, turned_piece};
-
-// What a comparison comes to: the strips stand in the store up to a place, or they do not.
-#[derive(Clone, Copy)]
-pub enum Compared {
-    Until(usize),
-    Unlike,
-}
 
 // An entry has just the three numbers.
 fn same_entry(entry: StripEntry, line: usize, first: usize, count: usize) -> bool
@@ -44,42 +37,33 @@ fn stands_at(store: &[StripEntry], at: usize, line: usize, first: usize, count: 
     false
 }
 
-// Compares the strips of a turned piece with those in the store from `at` on.
+// The place up to which the strips of a turned piece stand in the store from `at` on, if they do.
 pub fn compare_strips(
     pixels: &[u8],
     piece: TurnedPiece,
     direction: Direction,
     store: &[StripEntry],
     at: usize,
-) -> Compared
+) -> Option<usize>
     requires { SmallPiece piece × (at ≤ 2 ^ 32) }
     ensures { result ≡ compared (strips direction (shown_by pixels.now piece)) store.now at }
 {
     let mut at = at;
     let mut line = 0;
     let mut along = 0;
-    loop {
-        match next_strip(pixels, piece, direction, line, along) {
-            NextStrip::Done => {
-                return Compared::Until(at);
-            }
-            NextStrip::Found {
-                line: found,
-                first,
-                count,
-            } => {
-                if !stands_at(store, at, found, first, count) {
-                    return Compared::Unlike;
-                }
-                at += 1;
-                line = found;
-                along = first + count;
-            }
+    while let Some(found) = next_strip(pixels, piece, direction, line, along) {
+        if !stands_at(store, at, found.line, found.first, found.count) {
+            return None;
         }
+        at += 1;
+        line = found.line;
+        along = found.first + found.count;
     }
+    Some(at)
 }
 
-// Compares the strips of a job's piece in a turn with those in the store from `at` on. The piece's pixels begin at `start`.
+// The place up to which the strips of a job's piece in a turn stand in the store from `at` on, if they do. The piece's pixels begin at
+// `start`.
 pub fn compare_piece(
     table: &[PieceEntry],
     pixels: &[u8],
@@ -89,7 +73,7 @@ pub fn compare_piece(
     direction: Direction,
     store: &[StripEntry],
     at: usize,
-) -> Compared
+) -> Option<usize>
     requires { EntryAt table.now piece start × (at ≤ 2 ^ 32) }
     ensures { (size : JobSize) → result ≡ compared (strips direction (turned_piece (job_of (lent_by size table.now pixels.now)) piece turn)) store.now at }
 {

@@ -9,7 +9,7 @@ ghost use Rattle.job_laws.specs.Entries.{EntryAt};
 ghost use Rattle.piece_pixels.specs.Turned.{shown_by, SmallPiece};
 ghost use Rattle.strip_scan.specs.Put.{Appended};
 
-use super::scan::{NextStrip, next_strip};
+use super::scan::next_strip;
 use model::{Direction, PieceEntry, StripEntry, Turn};
 use piece_pixels::{TurnedPiece, turned_piece};
 
@@ -37,23 +37,13 @@ pub fn put_strips(
     let mut at = at;
     let mut line = 0;
     let mut along = 0;
-    loop {
-        match next_strip(pixels, piece, direction, line, along) {
-            NextStrip::Done => {
-                return at;
-            }
-            NextStrip::Found {
-                line: found,
-                first,
-                count,
-            } => {
-                put(store, at, found, first, count);
-                at += 1;
-                line = found;
-                along = first + count;
-            }
-        }
+    while let Some(found) = next_strip(pixels, piece, direction, line, along) {
+        put(store, at, found.line, found.first, found.count);
+        at += 1;
+        line = found.line;
+        along = found.first + found.count;
     }
+    at
 }
 
 // Puts the strips of a job's piece in a turn into the store from `at` on, and tells where the next strip would stand. The

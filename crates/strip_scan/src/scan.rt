@@ -10,15 +10,12 @@ ghost use Rattle.strip_scan.specs.Scan.{turned_side, NextIs};
 use model::Direction;
 use piece_pixels::TurnedPiece;
 
-// What reading on finds: a strip, or that there is none.
+// A strip that reading on finds.
 #[derive(Clone, Copy)]
-pub enum NextStrip {
-    Found {
-        line: usize,
-        first: usize,
-        count: usize,
-    },
-    Done,
+pub struct FoundStrip {
+    pub line: usize,
+    pub first: usize,
+    pub count: usize,
 }
 
 // The pixels along a line in the direction.
@@ -75,43 +72,36 @@ fn find(
     ensures { result ≡ first_from (λ a. beq (cell direction (shown_by pixels.now piece) a line) wanted) from (turned_side direction piece - from) }
 {
     let length = line_length(piece, direction);
-    let mut at = from;
-    while at < length {
+    for at in from..length {
         if is_pixel(pixels, piece, direction, at, line) == wanted {
             return at;
         }
-        at += 1;
     }
-    at
+    length
 }
 
-// The next strip from a cell of a line on.
+// The next strip from a cell of a line on, if there is one.
 pub fn next_strip(
     pixels: &[u8],
     piece: TurnedPiece,
     direction: Direction,
     line: usize,
     along: usize,
-) -> NextStrip
+) -> Option<FoundStrip>
     requires { SmallPiece piece × (along ≤ turned_side direction piece) }
     ensures { NextIs direction pixels.now piece line along result }
 {
     let length = line_length(piece, direction);
     let lines = line_count(piece, direction);
-    let mut line = line;
     let mut along = along;
-    while line < lines {
+    for line in line..lines {
         let first = find(pixels, piece, direction, line, along, true);
         if first < length {
             let end = find(pixels, piece, direction, line, first, false);
-            return NextStrip::Found {
-                line,
-                first,
-                count: end - first,
-            };
+            let count = end - first;
+            return Some(FoundStrip { line, first, count });
         }
-        line += 1;
         along = 0;
     }
-    NextStrip::Done
+    None
 }

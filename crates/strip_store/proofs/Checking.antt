@@ -1,4 +1,5 @@
 -- A lent store compared piece after piece: what is left of the store and the starts is still to be compared. Assumes nothing.
+use Rattle.std.specs.Prelude.{Option, Some, None}
 use Rattle.list_laws.proofs.Kit.{◌∙◌, ◌≡◌, ap, ap₂, refl, sym, Bool, ◌&&◌, and_assoc, and-true, false, true, ⊎_elim, List, [], ◌++◌, ◌∷◌, ◌+◌, ◌-◌, ◌<◌, ◌≤◌}
 use Rattle.list_laws.proofs.Kit.{suc, ℕ, add-zero, arith, eqb, ltb, drop, drop_of_length-le, get_or, length, length-append, take, drop-cons, le-ltb, lt-ltb}
 use Rattle.list_laws.proofs.Kit.{ltb-false, ltb-true}
@@ -10,8 +11,6 @@ use Rattle.model.specs.declared.Turn.{Turn}
 use Rattle.model.specs.declared.Direction.{Direction}
 use Rattle.list_laws.proofs.Tests.{decided}
 use Rattle.strip_scan.specs.Compare.{stand_in, compared_by, compared}
-use Rattle.strip_scan.specs.declared.compare.Compared.{Compared}
-use Rattle.strip_scan.specs.declared.compare.Compared.TheVariants.{Until, Unlike}
 use Rattle.strip_scan.proofs.Comparing.{stand_step}
 
 -- ── strips and starts in a row ──
@@ -129,26 +128,26 @@ check_end {d} {j} {ts} {entries} {lent} {at} {i} n q c =
     ap (λ k. start_is lent k at) (sym q) ∙ sym (starts_step lent i at 0 [] ∙ and-true (start_is lent i at)) ∙ (rw e at c.decides)
 
 -- what a comparison that went through says
-pub until_from : (ts : List Strip) (entries : List (List ℕ)) (at end : ℕ) → Until end ≡ compared ts entries at
+pub some_from : (ts : List Strip) (entries : List (List ℕ)) (at end : ℕ) → Some end ≡ compared ts entries at
     → (stand_in ts entries at ≡ true) × (end ≡ at + length ts)
 unfolding compared
-until_from ts entries at end e = go (stand_in ts entries at) e
+some_from ts entries at end e = go (stand_in ts entries at) e
   where
-    go : (b : Bool) → Until end ≡ compared_by b (at + length ts) → (b ≡ true) × (end ≡ at + length ts)
+    go : (b : Bool) → Some end ≡ compared_by b (at + length ts) → (b ≡ true) × (end ≡ at + length ts)
     go true h = (refl, (cc))
-    go false h = let z : ◌≡◌ {A = ℕ} 0 1 = cc in absurd (omega arith)
+    go false h = absurd (cc)
 
 -- and one that did not
-pub unlike_from : (ts : List Strip) (entries : List (List ℕ)) (at : ℕ) → Unlike ≡ compared ts entries at → stand_in ts entries at ≡ false
+pub none_from : (ts : List Strip) (entries : List (List ℕ)) (at : ℕ) → None ≡ compared ts entries at → stand_in ts entries at ≡ false
 unfolding compared
-unlike_from ts entries at e = go (stand_in ts entries at) e
+none_from ts entries at e = go (stand_in ts entries at) e
   where
-    go : (b : Bool) → Unlike ≡ compared_by b (at + length ts) → b ≡ false
-    go true h = let z : ◌≡◌ {A = ℕ} 0 1 = cc in absurd (omega arith)
+    go : (b : Bool) → None ≡ compared_by b (at + length ts) → b ≡ false
+    go true h = absurd (cc)
     go false h = refl
 
 -- the strips of a piece in the turn that the list has for it are its stretch
-pub stretch_compared : (d : Direction) (j : Job) (ts : List ℕ) (i at : ℕ) {t : Turn} (entries : List (List ℕ)) {r : Compared} → t ≡ turn_in ts i
+pub stretch_compared : (d : Direction) (j : Job) (ts : List ℕ) (i at : ℕ) {t : Turn} (entries : List (List ℕ)) {r : Option ℕ} → t ≡ turn_in ts i
     → r ≡ compared (strips d (turned_piece j i t)) entries at → r ≡ compared (piece_strips d j ts i) entries at
 unfolding piece_strips
 stretch_compared d j ts i at entries e h = h ∙ ap (λ u. compared (strips d (turned_piece j i u)) entries at) e

@@ -1,7 +1,7 @@
 -- Stores filled piece after piece: what is left of the store and the starts is still to be stored, and no store is larger than the
 -- boxes. Assumes nothing.
 use Rattle.list_laws.proofs.Kit.{◌∙◌, ◌≡◌, ap, ap₂, refl, subst, sym, false, not, true, ⊎_elim, List, ◌++◌, map, map-append, ◌+◌, ◌-◌, ◌<◌, ◌≤◌, suc, zero, ℕ}
-use Rattle.list_laws.proofs.Kit.{arith, ltb, length, length-append, length-map, set, length-sets, sets, eqb-true, le-ltb, lt-ltb, ltb-false, ltb-true}
+use Rattle.list_laws.proofs.Kit.{arith, ltb, length, length-append, length-map, set, sets, eqb-true, le-ltb, lt-ltb, ltb-false, ltb-true}
 use Rattle.list_laws.proofs.Kit.{not-false}
 use Rattle.model.specs.Strip.{Strip, strips}
 use Rattle.model.specs.Buffer.{strip_entry}
@@ -91,14 +91,6 @@ fill_end {d} {j} {ts} {strips₀} {strips₁} {starts₀} {starts₁} {at} {i} n
     let e : n - i ≡ 0 = omega arith in
     let c : at + 0 ≡ length (store d j ts) = rw e at f.counted in
     record { all = omega arith; stored = rw e at f.stored; started = ap (λ k. set starts₁ k at) (sym q) ∙ (rw e at f.started) }
-
--- the store and the starts keep their lengths
-pub fill_lengths : {d : Direction} {j : Job} {ts : List ℕ} {strips₀ strips₁ : List (List ℕ)} {starts₀ starts₁ : List ℕ} {at i left : ℕ}
-    → Filling d j ts strips₀ starts₀ strips₁ starts₁ at i left → (length strips₁ ≡ length strips₀) × (length starts₁ ≡ length starts₀)
-fill_lengths {d} {j} {ts} {strips₀} {strips₁} {starts₀} {starts₁} {at} {i} {left} f = (
-  sym (length-sets strips₁ at (map strip_entry (store_from d j ts i left))) ∙ ap length f.stored ∙ length-sets strips₀ 0 (map strip_entry (store d j ts)),
-  sym (length-sets starts₁ i (starts_from d j ts at i left)) ∙ ap length f.started ∙ length-sets starts₀ 0 (starts d j ts),
-)
 
 -- ── room ──
 

@@ -5,7 +5,6 @@ ghost use Rattle.model.specs.Store.{store_well};
 ghost use Rattle.strip_store.specs.Made.{StoreReady};
 
 use model::{Direction, JobSize, PieceEntry, StripEntry};
-use strip_scan::compare::Compared;
 
 // The start of a piece is there and is the given place.
 fn starts_at(starts: &[u32], i: usize, at: usize) -> bool
@@ -31,20 +30,18 @@ pub fn same_store(
     ensures { result ≡ store_well direction (job_of (lent_by size table.now pixels.now)) turns.now strips.now starts.now }
 {
     let mut at = 0;
-    let mut i = 0;
-    while i < size.count {
+    for i in 0..size.count {
         if !starts_at(starts, i, at) {
             return false;
         }
         let start = job_check::pixel_start(table, i);
         let turn = layout_places::turn_or_zero(turns[i]);
-        let Compared::Until(end) = strip_scan::compare::compare_piece(
+        let Some(end) = strip_scan::compare::compare_piece(
             table, pixels, i, start, turn, direction, strips, at,
         ) else {
             return false;
         };
         at = end;
-        i += 1;
     }
     starts_at(starts, size.count, at)
 }

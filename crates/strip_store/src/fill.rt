@@ -44,13 +44,11 @@ pub fn fill(
     ensures { StoreFilled direction (job_of (lent_by size table.now pixels.now)) turns.now strips.old starts.old strips.new starts.new result }
 {
     let mut at = 0;
-    let mut i = 0;
-    while i < size.count {
+    for i in 0..size.count {
         put_start(starts, i, at);
         let start = job_check::pixel_start(table, i);
         let turn = layout_places::turn_or_zero(turns[i]);
         at = strip_scan::put::put_piece(table, pixels, i, start, turn, direction, strips, at);
-        i += 1;
     }
     put_start(starts, size.count, at);
     at

@@ -1,11 +1,14 @@
 -- Reading at a position, step by step. Assumes nothing.
-use Rattle.list_laws.proofs.Kit.{◌∙◌, ◌≡◌, ap, refl, false, true, ◌⊎◌, inl, inr, ⊎_elim, List, [], ◌++◌, ◌∷◌, ◌%◌, ◌*◌, ◌+◌, ◌-◌, ◌/◌, ◌<◌, ◌≤◌, suc, zero, ℕ}
-use Rattle.list_laws.proofs.Kit.{le_refl, arith, leb, ltb, get_or-eq_default, drop, get_or, length, length-append, drop-cons, eq-eqb, le-ltb, leb-false}
+use Rattle.list_laws.proofs.Kit.{◌∙◌, ◌≡◌, ◌&&◌, add-zero, eqb, Bool, ap, refl, sym, false, true, ◌⊎◌, inl, inr, ⊎_elim, List, [], ◌++◌, ◌∷◌, ◌%◌, ◌*◌, ◌+◌, ◌-◌, ◌/◌, ◌<◌, ◌≤◌, suc, zero, ℕ}
+use Rattle.list_laws.proofs.Kit.{le_refl, arith, leb, ltb, get_or-eq_default, get_or, length, length-append, eq-eqb, le-ltb, leb-false}
 use Rattle.list_laws.proofs.Kit.{leb-true, lt-ltb, ltb-false, ltb-true, ne_eqb}
 use Rattle.model.specs.Text.{byte, is_digit, is_number, as_number, Digits, digits_from, number_at, stands_at, after, field_at, Reading, got, wrong, onward, decimal}
-use Rattle.list_laws.proofs.Tests.{and_left, and_right, decided}
+use Rattle.model.specs.Bounded.{all_below}
+use Rattle.list_laws.proofs.Bounded.{all_at, all_from}
+use Rattle.list_laws.proofs.Tests.{and_both, and_left, and_right, decided, same_tests}
 use Rattle.text_fields.specs.Answers.{number_of, digit_run}
-use Rattle.text_fields.specs.declared.Number.TheVariants.{Got, Wrong}
+use Rattle.std.specs.Prelude.{Some, None}
+use Rattle.text_fields.specs.declared.Number.{Number}
 use Rattle.text_fields.specs.declared.reading.DigitRun.{DigitRun}
 
 -- ── bytes ──
@@ -64,7 +67,7 @@ as_got : (text : List ℕ) (p : ℕ) (d : Digits) → is_number text p d.next �
 as_got text p d h = rw (h, as_number)
 
 pub number_got : (text : List ℕ) (p : ℕ) (run : DigitRun) → run ≡ digit_run (digits_from text p 0 5) → is_number text p run.next ≡ true
-    → number_of (number_at text p) ≡ Got run.value run.next
+    → number_of (number_at text p) ≡ Some (record { value = run.value; next = run.next })
 unfolding number_at
 number_got text p run e h =
     let d : Digits = digits_from text p 0 5 in
@@ -77,7 +80,7 @@ as_wrong : (text : List ℕ) (p : ℕ) (d : Digits) → is_number text p d.next 
 as_wrong text p d h = rw (h, as_number)
 
 pub number_wrong : (text : List ℕ) (p : ℕ) (run : DigitRun) → run ≡ digit_run (digits_from text p 0 5) → is_number text p run.next ≡ false
-    → number_of (number_at text p) ≡ Wrong
+    → number_of (number_at text p) ≡ None
 unfolding number_at
 number_wrong text p run e h =
     let d : Digits = digits_from text p 0 5 in
@@ -85,7 +88,7 @@ number_wrong text p run e h =
     ap number_of (as_wrong text p d (rw n at h))
 
 -- no digit, no number
-pub number_none : (text : List ℕ) (p : ℕ) → is_digit (byte text p) ≡ false → number_of (number_at text p) ≡ Wrong
+pub number_none : (text : List ℕ) (p : ℕ) → is_digit (byte text p) ≡ false → number_of (number_at text p) ≡ None
 unfolding number_at
 number_none text p h =
     let d : Digits = digits_from text p 0 5 in
@@ -95,16 +98,16 @@ number_none text p h =
 -- ── fields ──
 
 -- what an answer says of what is read
-pub got_of : (r : Reading ℕ) (k p : ℕ) → Got k p ≡ number_of r → r ≡ got k p
-got_of wrong k p e = let z : ◌≡◌ {A = ℕ} 0 1 = cc in absurd (omega arith)
-got_of (got j q) k p e = cc
+pub got_of : (r : Reading ℕ) (n : Number) → Some n ≡ number_of r → r ≡ got n.value n.next
+got_of wrong n e = cc
+got_of (got j q) n e = cc
 
-pub wrong_of : (r : Reading ℕ) → Wrong ≡ number_of r → r ≡ wrong
+pub wrong_of : (r : Reading ℕ) → None ≡ number_of r → r ≡ wrong
 wrong_of wrong e = refl
-wrong_of (got j q) e = let z : ◌≡◌ {A = ℕ} 0 1 = cc in absurd (omega arith)
+wrong_of (got j q) e = cc
 
 -- a field without a number
-pub field_none : (text : List ℕ) (p end : ℕ) → number_at text p ≡ wrong → number_of (field_at end text p) ≡ Wrong
+pub field_none : (text : List ℕ) (p end : ℕ) → number_at text p ≡ wrong → number_of (field_at end text p) ≡ None
 unfolding field_at
 field_none text p end e = rw e
 
@@ -128,14 +131,14 @@ pub after_word : {A : Type 0} (word text : List ℕ) (p : ℕ) (more : ℕ → R
 after_word word text p more h = rw (h, after)
 
 -- a number with another byte behind it
-pub field_wrong : (text : List ℕ) (p end k q : ℕ) → number_at text p ≡ got k q → (byte text q ≡ end → ⊥) → number_of (field_at end text p) ≡ Wrong
+pub field_wrong : (text : List ℕ) (p end k q : ℕ) → number_at text p ≡ got k q → (byte text q ≡ end → ⊥) → number_of (field_at end text p) ≡ None
 unfolding field_at
 field_wrong text p end k q e h =
     ap (λ (r : Reading ℕ). number_of (onward r (λ j s. after (end ∷ []) text s (λ t. got j t)))) e
     ∙ ap number_of (after_not (end ∷ []) text q (λ t. got k t) (one_not text q end h))
 
 -- a number with its end byte
-pub field_got : (text : List ℕ) (p end k q : ℕ) → number_at text p ≡ got k q → byte text q ≡ end → number_of (field_at end text p) ≡ Got k (q + 1)
+pub field_got : (text : List ℕ) (p end k q : ℕ) → number_at text p ≡ got k q → byte text q ≡ end → number_of (field_at end text p) ≡ Some (record { value = k; next = q + 1 })
 unfolding field_at
 field_got text p end k q e h =
     ap (λ (r : Reading ℕ). number_of (onward r (λ j s. after (end ∷ []) text s (λ t. got j t)))) e
@@ -143,21 +146,44 @@ field_got text p end k q e h =
 
 -- ── words ──
 
--- the next byte of the word stands there
-pub stands_more : (word text : List ℕ) (k q : ℕ) → k < length word → byte text q ≡ get_or word k 0
-    → stands_at (drop k word) text q ≡ stands_at (drop (suc k) word) text (suc q)
-unfolding stands_at
-stands_more word text k q l e = rw (drop-cons word k 0 l, stands_at, eq-eqb (byte text q) (get_or word k 0) e)
+-- a byte of the word stands as far behind the position
+abbrev pub there : List ℕ → List ℕ → ℕ → ℕ → Bool
+there word text p k = eqb (byte text (p + k)) (get_or word k 0)
 
--- another byte stands there
-pub stands_not : (word text : List ℕ) (k q : ℕ) → k < length word → (byte text q ≡ get_or word k 0 → ⊥) → stands_at (drop k word) text q ≡ false
+-- its first byte stands there and the others behind it
+stands_both : (c : ℕ) (cs text : List ℕ) (p : ℕ) → stands_at (c ∷ cs) text p ≡ (eqb (byte text p) c && stands_at cs text (suc p))
 unfolding stands_at
-stands_not word text k q l e = rw (drop-cons word k 0 l, stands_at, ne_eqb (byte text q) (get_or word k 0) e)
+stands_both c cs text p = both (eqb (byte text p) c) (stands_at cs text (suc p))
+  where
+    both : (b d : Bool) → elim b as (λ _. Bool) [ true ↦ d | false ↦ false ] ≡ (b && d)
+    both true d = refl
+    both false d = refl
 
--- nothing of the word is left
-pub stands_all : (word text : List ℕ) (k q : ℕ) → length word ≤ k → stands_at (drop k word) text q ≡ true
+-- one place on in the word is one on in the text
+there_next : (c : ℕ) (cs text : List ℕ) (p k : ℕ) → there (c ∷ cs) text p (suc k) ≡ there cs text (suc p) k
+there_next c cs text p k = let i : p + suc k ≡ suc p + k = omega arith in ap (λ (j : ℕ). eqb (byte text j) (get_or cs k 0)) i
+
+-- where each byte does, the word stands there
+each_there : (word text : List ℕ) (p : ℕ) → ((k : ℕ) → k < length word → there word text p k ≡ true) → stands_at word text p ≡ true
 unfolding stands_at
-stands_all word text k q l = rw (lib.ListN.drop_of_length-le word l)
+each_there [] text p h = refl
+each_there (c ∷ cs) text p h =
+    stands_both c cs text p
+    ∙ and_both (rw add-zero at (h 0 (omega arith)))
+    (each_there cs text (suc p) (λ k l. sym (there_next c cs text p k) ∙ h (suc k) (omega arith)))
+
+-- where the word stands, each byte does
+there_each : (word text : List ℕ) (p : ℕ) → stands_at word text p ≡ true → (k : ℕ) → k < length word → there word text p k ≡ true
+there_each [] text p e k l = absurd (omega arith)
+there_each (c ∷ cs) text p e zero l = rw add-zero (and_left (eqb (byte text p) c) (stands_at cs text (suc p)) (sym (stands_both c cs text p) ∙ e))
+there_each (c ∷ cs) text p e (suc k) l =
+    there_next c cs text p k
+    ∙ there_each cs text (suc p) (and_right (eqb (byte text p) c) (stands_at cs text (suc p)) (sym (stands_both c cs text p) ∙ e)) k (omega arith)
+
+pub all_there : (word text : List ℕ) (p : ℕ) → all_below (length word) (there word text p) ≡ stands_at word text p
+all_there word text p =
+    same_tests _ _ (λ e. each_there word text p (all_at (length word) (there word text p) e))
+    (λ e. all_from (length word) (there word text p) (there_each word text p e))
 
 -- ── writing ──
 

@@ -7,9 +7,9 @@ mod writing;
 pub use reading::{byte_at, field_at, number_at, word_at};
 pub use writing::{put_byte, put_decimal, put_number, put_word};
 
-// A number and the position after it, or wrong form.
+// A number and the position after it. Where none is read for its wrong form, a call answers None.
 #[derive(Clone, Copy)]
-pub enum Number {
-    Got(usize, usize),
-    Wrong,
+pub struct Number {
+    pub value: usize,
+    pub next: usize,
 }

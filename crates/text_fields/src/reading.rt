@@ -47,53 +47,58 @@ fn digits_from(text: &[u8], p: usize) -> DigitRun
 {
     let mut value: usize = 0;
     let mut next = p;
-    let mut left: usize = 5;
-    while 0 < left {
+    for _ in 0..5usize {
         let b = byte_at(text, next);
         if !is_digit(b) {
             return DigitRun { value, next };
         }
         value = value * 10 + digit_value(b);
         next += 1;
-        left -= 1;
     }
     DigitRun { value, next }
 }
 
 // The number at position p: 1 to 5 digits, a leading zero only in 0 itself.
-pub fn number_at(text: &[u8], p: usize) -> Number
+pub fn number_at(text: &[u8], p: usize) -> Option<Number>
     ensures { Reads result (number_at text.now p) text.now }
 {
     let first = byte_at(text, p);
     if !is_digit(first) {
-        return Number::Wrong;
+        return None;
     }
     let run = digits_from(text, p);
     let next = run.next;
     if is_digit(byte_at(text, next)) {
-        return Number::Wrong;
+        return None;
     }
     if first != 48 {
-        return Number::Got(run.value, next);
+        return Some(Number {
+            value: run.value,
+            next,
+        });
     }
     if next == p + 1 {
-        return Number::Got(run.value, next);
+        return Some(Number {
+            value: run.value,
+            next,
+        });
     }
-    Number::Wrong
+    None
 }
 
 // The field at position p: a number and the byte that ends it.
-pub fn field_at(text: &[u8], p: usize, end: u8) -> Number
+pub fn field_at(text: &[u8], p: usize, end: u8) -> Option<Number>
     requires { 0 < end }
     ensures { Reads result (field_at end text.now p) text.now }
 {
-    let Number::Got(value, next) = number_at(text, p) else {
-        return Number::Wrong;
-    };
+    let Number { value, next } = number_at(text, p)?;
     if byte_at(text, next) != end {
-        return Number::Wrong;
+        return None;
     }
-    Number::Got(value, next + 1)
+    Some(Number {
+        value,
+        next: next + 1,
+    })
 }
 
 // The word stands at position p.
@@ -101,12 +106,5 @@ pub fn word_at(text: &[u8], p: usize, word: &[u8]) -> bool
     requires { p ≤ length text.now }
     ensures { result ≡ stands_at word.now text.now p }
 {
-    let mut k = 0;
-    while k < word.len() {
-        if byte_at(text, p + k) != word[k] {
-            return false;
-        }
-        k += 1;
-    }
-    true
+    (0..word.len()).all(|k| byte_at(text, p + k) == word[k])
 }

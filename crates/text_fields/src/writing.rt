@@ -21,12 +21,10 @@ pub fn put_word(text: &mut [u8], at: usize, word: &[u8]) -> usize
     requires { at < 2 ^ 62 }
     ensures { (result ≡ at + length word.now) × (text.new ≡ sets text.old at word.now) }
 {
-    let mut k = 0;
-    while k < word.len() {
-        put_byte(text, at + k, word[k]);
-        k += 1;
+    for (k, b) in word.iter().enumerate() {
+        put_byte(text, at + k, *b);
     }
-    at + k
+    at + word.len()
 }
 
 // The byte of a digit.

@@ -1,10 +1,10 @@
 -- Document 01, 'When a call says no': the first cause that is there refuses. What a list of causes comes to by itself, in front of others and
 -- behind others, and which lists come to the same. Assumes nothing.
+use Rattle.std.specs.Prelude.{Result, Ok, Err}
 use Rattle.list_laws.proofs.Kit.{◌∙◌, ◌≡◌, ap, refl, sym, Bool, ◌||◌, false, true, List, [], ◌++◌, ◌∷◌, append-nil, ℕ, arith}
 use Rattle.model.specs.Refusal.{Outcome, refused, given, Cause, cause, unless, plain_refusal, refusal_of}
 use Rattle.model.specs.Answers.{done_answer, outcome_of, first_cause}
 use Rattle.model.specs.declared.Refusal.{Refusal}
-use Rattle.model.specs.declared.DoneAnswer.{DoneAnswer}
 use Rattle.text_laws.specs.Outcomes.{NoCause}
 use Rattle.text_laws.proofs.Outcomes.{given_unless, unless_given}
 
@@ -16,7 +16,7 @@ unfolding unless
 here_refused n b cs a e = rw (e, unless)
 
 -- so it is the call's answer
-pub there : (n : ℕ) (b : Bool) (cs : List Cause) → b ≡ true → DoneAnswer.Refused (plain_refusal n) ≡ first_cause (cause n b ∷ cs)
+pub there : (n : ℕ) (b : Bool) (cs : List Cause) → b ≡ true → Err (plain_refusal n) ≡ first_cause (cause n b ∷ cs)
 there n b cs e = sym (ap done_answer (here_refused n b cs tt e))
 
 -- one that is not there leaves it to the others
@@ -25,32 +25,32 @@ unfolding unless
 not_there n b cs a e = rw (e, unless)
 
 -- a call that goes on behind such a cause
-pub next : {r : DoneAnswer} (n : ℕ) (b : Bool) (cs : List Cause) → b ≡ false → r ≡ first_cause cs → r ≡ first_cause (cause n b ∷ cs)
+pub next : {r : Result (Unit {0}) Refusal} (n : ℕ) (b : Bool) (cs : List Cause) → b ≡ false → r ≡ first_cause cs → r ≡ first_cause (cause n b ∷ cs)
 next n b cs e h = h ∙ sym (ap done_answer (not_there n b cs tt e))
 
 -- where none is left, the call is done
-pub no_more : DoneAnswer.Done ≡ first_cause []
+pub no_more : Ok tt ≡ first_cause []
 unfolding unless
 no_more = refl
 
 -- ── what an answer tells ──
 
 -- the outcome of causes that pass
-passed_given : (o : Outcome (Unit {0})) → DoneAnswer.Done ≡ done_answer o → o ≡ given tt
+passed_given : (o : Outcome (Unit {0})) → Ok tt ≡ done_answer o → o ≡ given tt
 passed_given (refused r) e = let z : ◌≡◌ {A = ℕ} 0 1 = cc in absurd (omega arith)
 passed_given (given tt) e = refl
 
 -- the outcome of causes that refuse
-refused_refused : (o : Outcome (Unit {0})) (r : Refusal) → DoneAnswer.Refused r ≡ done_answer o → o ≡ refused r
+refused_refused : (o : Outcome (Unit {0})) (r : Refusal) → Err r ≡ done_answer o → o ≡ refused r
 refused_refused (refused s) r e = cc
 refused_refused (given tt) r e = let z : ◌≡◌ {A = ℕ} 0 1 = cc in absurd (omega arith)
 
 -- none of the causes is there
-pub passed_none : (cs : List Cause) → DoneAnswer.Done ≡ first_cause cs → NoCause cs
+pub passed_none : (cs : List Cause) → Ok tt ≡ first_cause cs → NoCause cs
 passed_none cs e = (given_unless cs tt tt (passed_given _ e)).none
 
 -- and the other way
-pub none_passed : (cs : List Cause) → NoCause cs → DoneAnswer.Done ≡ first_cause cs
+pub none_passed : (cs : List Cause) → NoCause cs → Ok tt ≡ first_cause cs
 none_passed cs h = sym (ap done_answer (unless_given cs tt h))
 
 -- ── causes in front of others ──
@@ -74,11 +74,11 @@ refused_by_lem [] ds a r e = let z : ◌≡◌ {A = ℕ} 0 1 = cc in absurd (ome
 refused_by_lem (c ∷ cs) ds a r e = refused_at c cs ds a r (refused_by_lem cs ds a r) c.there e
 
 -- what refuses alone refuses in front of others
-pub refused_then : {A : Type 0} (cs ds : List Cause) (a : A) (r : Refusal) → DoneAnswer.Refused r ≡ first_cause cs → unless (cs ++ ds) a ≡ refused r
+pub refused_then : {A : Type 0} (cs ds : List Cause) (a : A) (r : Refusal) → Err r ≡ first_cause cs → unless (cs ++ ds) a ≡ refused r
 refused_then cs ds a r e = refused_by_lem cs ds a r (refused_refused _ r e)
 
 -- what refuses alone refuses whatever the call would give
-pub refused_alone : {A : Type 0} (cs : List Cause) (a : A) (r : Refusal) → DoneAnswer.Refused r ≡ first_cause cs → unless cs a ≡ refused r
+pub refused_alone : {A : Type 0} (cs : List Cause) (a : A) (r : Refusal) → Err r ≡ first_cause cs → unless cs a ≡ refused r
 refused_alone cs a r e = rw append-nil at (refused_then cs [] a r e)
 
 -- ── lists that come to the same ──

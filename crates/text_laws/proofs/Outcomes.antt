@@ -1,10 +1,10 @@
 -- Document 01, 'When a call says no': where no cause is there the value is given, and where a value is given every step before it
 -- went through. Assumes nothing.
+use Rattle.std.specs.Prelude.{Ok}
 use Rattle.list_laws.proofs.Kit.{◌≡◌, refl, Bool, false, true, ◌⊎◌, inl, inr, List, [], ◌∷◌, ◌+◌, ℕ, arith, length}
 use Rattle.model.specs.Refusal.{Outcome, refused, given, Cause, unless, refusal_of}
 use Rattle.model.specs.Text.{Reading, wrong, got, onward, or_else, formed, and_then, stands_at, after}
 use Rattle.model.specs.Answers.{number_answer}
-use Rattle.model.specs.declared.NumberAnswer.{NumberAnswer}
 use Rattle.model.specs.declared.Refusal.{Refusal}
 use Rattle.text_laws.specs.Outcomes.{NoCause, Unless}
 
@@ -19,7 +19,7 @@ pub refused_given : {A : Type 0} {r : Refusal} {a : A} → refused r ≡ given a
 refused_given {A} {r} {a} e = let z : ◌≡◌ {A = ℕ} 0 1 = cc in omega arith
 
 -- a number that is answered is given
-pub number_given : (o : Outcome ℕ) (n : ℕ) → NumberAnswer.Number n ≡ number_answer o → o ≡ given n
+pub number_given : (o : Outcome ℕ) (n : ℕ) → Ok n ≡ number_answer o → o ≡ given n
 number_given (refused r) n e = let z : ◌≡◌ {A = ℕ} 0 1 = cc in absurd (omega arith)
 number_given (given k) n e = cc
 

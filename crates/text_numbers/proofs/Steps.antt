@@ -1,7 +1,6 @@
 -- A line's fields read one after the other: the numbers so far stand in front of those that are left to read. Assumes nothing.
-use Rattle.list_laws.proofs.Kit.{◌∙◌, ◌≡◌, ap, refl, sym, ⊎_elim, List, [], ◌∷◌, ◌+◌, ◌-◌, ◌<◌, ◌≤◌, suc, zero, ℕ, arith, length, set, get_or-set_other}
-use Rattle.list_laws.proofs.Kit.{get_or-set_same, dec_lt}
-use Rattle.list_laws.proofs.Numbers.{below_suc}
+use Rattle.list_laws.proofs.Kit.{◌∙◌, ◌≡◌, ap, refl, sym, List, [], ◌∷◌, ◌+◌, ◌-◌, ◌<◌, ◌≤◌, suc, zero, ℕ, arith, length, set, get_or-set_other}
+use Rattle.list_laws.proofs.Kit.{get_or-set_same}
 use Rattle.model.specs.Text.{Reading, wrong, got, onward, comma, field_at, fields_at, three_fields, four_fields, field}
 use Rattle.text_numbers.specs.Lines.{end_byte, field_ends, in_front}
 
@@ -33,32 +32,6 @@ front_stored : (numbers ks : List ℕ) (k v : ℕ) → k < length numbers → in
 front_stored numbers ks k v h =
     ap (λ (n : ℕ). in_front (set numbers k v) k (n ∷ ks)) (get_or-set_same numbers k v 0 h) ∙ front_kept numbers (v ∷ ks) k k v (omega arith)
 
--- behind the first k others
-pub behind_front : (numbers : List ℕ) (k j : ℕ) (ks : List ℕ) → k ≤ j → field (in_front numbers k ks) j ≡ field ks (j - k)
-behind_front numbers zero j ks h = let z : j - 0 ≡ j = omega arith in sym (ap (field ks) z)
-behind_front numbers (suc k) j ks h =
-    let s : j - k ≡ suc (j - suc k) = omega arith in
-    behind_front numbers k j (field numbers k ∷ ks) (omega arith) ∙ ap (field (field numbers k ∷ ks)) s
-
--- the first k as they stand in the buffer
-pub in_front_lem : (numbers : List ℕ) (k j : ℕ) (ks : List ℕ) → j < k → field (in_front numbers k ks) j ≡ field numbers j
-in_front_lem numbers zero j ks h = absurd (omega arith)
-in_front_lem numbers (suc k) j ks h =
-    ⊎_elim
-    (λ e.
-    let z : j - k ≡ 0 = omega arith in
-    behind_front numbers k j (field numbers k ∷ ks) (omega arith) ∙ ap (field (field numbers k ∷ ks)) z ∙ ap (field numbers) (sym e))
-    (λ l. in_front_lem numbers k j (field numbers k ∷ ks) l)
-    (below_suc h)
-
--- where zeros stand behind the first k, these are the buffer's at every place
-pub front_same : (numbers : List ℕ) (k : ℕ) → ((j : ℕ) → k ≤ j → field numbers j ≡ 0) → (j : ℕ) → field (in_front numbers k []) j ≡ field numbers j
-front_same numbers k h j = by_test (dec_lt j k)
-  where
-    by_test : Dec (j < k) → field (in_front numbers k []) j ≡ field numbers j
-    by_test (yes l) = in_front_lem numbers k j [] l
-    by_test (no d) = let l : k ≤ j = omega arith in behind_front numbers k j [] l ∙ sym (h j l)
-
 -- a number stored at place k leaves zeros behind it
 pub zeros_kept : (numbers : List ℕ) (k v : ℕ) → ((j : ℕ) → k ≤ j → field numbers j ≡ 0) → (j : ℕ) → k + 1 ≤ j → field (set numbers k v) j ≡ 0
 zeros_kept numbers k v h j l = get_or-set_other numbers k j v 0 (λ e. omega arith) ∙ h j (omega arith)
@@ -68,18 +41,6 @@ zeros_kept numbers k v h j l = get_or-set_other numbers k j v 0 (λ e. omega ari
 -- the numbers so far in front of what is left to read
 abbrev pub read_on : List ℕ → ℕ → Reading (List ℕ) → Reading (List ℕ)
 read_on numbers k r = onward r (λ ks next. got (in_front numbers k ks) next)
-
--- no number in front
-front_none : (numbers : List ℕ) (r : Reading (List ℕ)) → read_on numbers 0 r ≡ r
-front_none numbers wrong = refl
-front_none numbers (got ks next) = refl
-
--- nothing is read yet
-pub read_none : (text numbers : List ℕ) (p count : ℕ)
-    → read_on numbers 0 (fields_at (field_ends (count - 0)) text p) ≡ fields_at (field_ends count) text p
-read_none text numbers p count =
-    let all : count - 0 ≡ count = omega arith in
-    front_none numbers (fields_at (field_ends (count - 0)) text p) ∙ ap (λ (n : ℕ). fields_at (field_ends n) text p) all
 
 -- one more number read and stored
 read_stored : (numbers : List ℕ) (k v : ℕ) → k < length numbers → (r : Reading (List ℕ))

@@ -1,7 +1,6 @@
 -- The end bytes of a line's fields, and from the answers of this crate's calls to what the definitions read. Assumes nothing.
-use Rattle.std.specs.Prelude.{List, [], ◌∷◌, ◌≡◌, ℕ, zero, suc, ◌≤◌, length}
+use Rattle.std.specs.Prelude.{Option, Some, None, List, [], ◌∷◌, ◌≡◌, ℕ, zero, suc, ◌≤◌, length}
 use Rattle.model.specs.Text.{Reading, wrong, got, comma, line_end, field}
-use Rattle.text_numbers.specs.declared.LineForm.{LineForm}
 use Rattle.text_numbers.specs.declared.LineNumbers.{LineNumbers}
 
 -- the byte that ends a field with so many fields behind it: byte 10 after the last, a comma else
@@ -20,18 +19,23 @@ abbrev pub in_front : List ℕ → ℕ → List ℕ → List ℕ
 in_front numbers zero ks = ks
 in_front numbers (suc k) ks = in_front numbers k (field numbers k ∷ ks)
 
--- the numbers and the position after them, or wrong form
-abbrev pub form_reading : List ℕ → LineForm → Reading (List ℕ)
-form_reading ks LineForm.Wrong = wrong
-form_reading ks (LineForm.Right next) = got ks next
+-- the first `count` numbers and the position after them, or wrong form
+abbrev pub form_reading : ℕ → Option LineNumbers → Reading (List ℕ)
+form_reading count None = wrong
+form_reading count (Some r) = got (in_front r.numbers count []) r.next
+
+-- the numbers behind the first `count` are 0, where the form is right
+abbrev pub Behind : ℕ → Option LineNumbers → Type 0
+Behind count None = Unit {0}
+Behind count (Some r) = (k : ℕ) → count ≤ k → field r.numbers k ≡ 0
 
 -- the position after the line; 0 where the form is wrong
-abbrev pub after_form : LineForm → ℕ
-after_form LineForm.Wrong = 0
-after_form (LineForm.Right next) = next
+abbrev pub after_form : Option LineNumbers → ℕ
+after_form None = 0
+after_form (Some r) = r.next
 
--- the first `count` numbers and the form are what the definition reads, the others are 0, and the line lies in the text
-pub record ReadsLine (r : LineNumbers) (count : ℕ) (reading : Reading (List ℕ)) (text : List ℕ) : Type 0 where
-  pub same : reading ≡ form_reading (in_front r.numbers count []) r.form
-  pub others : (k : ℕ) → count ≤ k → field r.numbers k ≡ 0
-  pub inside : after_form r.form ≤ length text
+-- the first `count` numbers are what the definition reads, the others are 0, and the line lies in the text
+pub record ReadsLine (r : Option LineNumbers) (count : ℕ) (reading : Reading (List ℕ)) (text : List ℕ) : Type 0 where
+  pub same : reading ≡ form_reading count r
+  pub others : Behind count r
+  pub inside : after_form r ≤ length text

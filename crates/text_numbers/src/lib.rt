@@ -6,20 +6,13 @@ ghost use Rattle.std.specs.Prelude.{◌+◌, ◌<◌, ◌≤◌, ◌≡◌, leng
 ghost use Rattle.model.specs.Text.{fields_at, line_at};
 ghost use Rattle.text_numbers.specs.Lines.{end_byte, field_ends, ReadsLine};
 
-use text_fields::{Number, field_at, word_at};
+use text_fields::{field_at, word_at};
 
-// The position after a line, or wrong form.
-#[derive(Clone, Copy)]
-pub enum LineForm {
-    Right(usize),
-    Wrong,
-}
-
-// The numbers of a line, the first at index 0, behind them zeros, and its form. Where the form is wrong the numbers say nothing.
+// The numbers of a line, the first at index 0, behind them zeros, and the position after the line. Where the form is wrong, a call answers None.
 #[derive(Clone, Copy)]
 pub struct LineNumbers {
     pub numbers: [usize; 8],
-    pub form: LineForm,
+    pub next: usize,
 }
 
 // The byte that ends a field with so many fields behind it.
@@ -34,35 +27,27 @@ fn end_byte(behind: usize) -> u8
 }
 
 // So many numbers from position p on, each with its end byte.
-fn fields_at(text: &[u8], p: usize, count: usize) -> LineNumbers
+fn fields_at(text: &[u8], p: usize, count: usize) -> Option<LineNumbers>
     requires { (0 < count) × (count ≤ 8) }
     ensures { ReadsLine result count (fields_at (field_ends count) text.now p) text.now }
 {
     let mut numbers = [0usize; 8];
     let mut next = p;
-    let mut k = 0;
-    while k < count {
-        let Number::Got(number, after) = field_at(text, next, end_byte(count - k - 1)) else {
-            let form = LineForm::Wrong;
-            return LineNumbers { numbers, form };
-        };
-        numbers[k] = number;
-        next = after;
-        k += 1;
+    for k in 0..count {
+        let number = field_at(text, next, end_byte(count - k - 1))?;
+        numbers[k] = number.value;
+        next = number.next;
     }
-    let form = LineForm::Right(next);
-    LineNumbers { numbers, form }
+    Some(LineNumbers { numbers, next })
 }
 
 // The line of the word and so many numbers at position p.
-pub fn line_at(text: &[u8], p: usize, word: &[u8], count: usize) -> LineNumbers
+pub fn line_at(text: &[u8], p: usize, word: &[u8], count: usize) -> Option<LineNumbers>
     requires { (p ≤ length text.now) × (0 < count) × (count ≤ 8) }
     ensures { ReadsLine result count (line_at word.now (field_ends count) text.now p) text.now }
 {
     if !word_at(text, p, word) {
-        let numbers = [0usize; 8];
-        let form = LineForm::Wrong;
-        return LineNumbers { numbers, form };
+        return None;
     }
     fields_at(text, p + word.len(), count)
 }

@@ -1,11 +1,12 @@
 -- `job_lock_calls::set_lock` meets its contract: each test tells whether its cause is there, and where none is the lock is set; either way the
 -- table is the one that the call leaves, of which the claims hold. Assumes nothing.
+use Rattle.std.specs.Prelude.{Result, Ok}
+use Rattle.model.specs.declared.Refusal.{Refusal}
 use Rattle.list_laws.proofs.Kit.{◌∙◌, ◌≡◌, ap, refl, sym, false, true, List, [], ◌∷◌, ℕ, arith, eqb, ltb, rules, eq-eqb, le-ltb, lt-ltb, ne_eqb}
 use Rattle.model.specs.Answers.{done_answer}
 use Rattle.model.specs.Lent.{Lent, lent_by, lent_well}
 use Rattle.model.specs.Refusal.{Outcome, refused, given, unless, plain_refusal}
 use Rattle.model.specs.Calls.{set_lock_call, locked_after, with_lock, cutters_station, planners_station}
-use Rattle.model.specs.declared.DoneAnswer.{DoneAnswer}
 use Rattle.list_laws.proofs.Tests.{said_no, said_yes}
 use Rattle.job_laws.proofs.Checked.{facts}
 use Rattle.call_laws.specs.Locks.{lock_call, LocksClaims}
@@ -18,7 +19,7 @@ abbrev lent : tie.Start → Lent
 lent s = lent_by s.args.size s.args.table.now s.args.pixels.now
 
 -- what the contract says of an answer and a table, where the call comes to an outcome
-ends : (l : Lent) (i station : ℕ) (o : Outcome (List (List ℕ))) (r : DoneAnswer) (table : List (List ℕ)) → set_lock_call l i station ≡ o
+ends : (l : Lent) (i station : ℕ) (o : Outcome (List (List ℕ))) (r : Result (Unit {0}) Refusal) (table : List (List ℕ)) → set_lock_call l i station ≡ o
     → r ≡ done_answer o → table ≡ locked_after l.table o
     → (r ≡ done_answer (set_lock_call l i station))
     × ((table ≡ locked_after l.table (set_lock_call l i station))
@@ -98,7 +99,7 @@ returns c =
     let locked : tie.After-lock_piece = search in
     let here : ltb s.args.piece s.args.size.count ≡ true = lt-ltb s.args.piece s.args.size.count there.if-missing.false in
     let cutter : eqb s.args.station planners_station ≡ false = ne_eqb s.args.station planners_station free.if-planner.false in
-    ends (lent s) s.args.piece s.args.station (given (with_lock s.args.table.now s.args.piece)) DoneAnswer.Done _
+    ends (lent s) s.args.piece s.args.station (given (with_lock s.args.table.now s.args.piece)) (Ok tt) _
     (rw (job_well checked, station-known asked, here, cutter, unless)) refl locked.lock_piece.ensures
 
 pub set_lock_spec : {M : Type 1} → statement M

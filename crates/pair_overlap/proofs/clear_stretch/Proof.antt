@@ -61,24 +61,24 @@ overflow_sub-left c =
 
 overflow_add-result : tie.Need-overflow_add-result invariant-loop-r decreases-loop-r
 overflow_add-result c =
-    let at-lesser : tie.After-lesser-room invariant-loop-r decreases-loop-r = search in
+    let at-min : tie.After-min-room invariant-loop-r decreases-loop-r = search in
     let at-slide : tie.After-slide-s invariant-loop-r decreases-loop-r = search in
     let in-loop : tie.In-loop-r invariant-loop-r decreases-loop-r = search in
     let at-start : tie.Start invariant-loop-r decreases-loop-r = search in
     let short = at-slide.slide-s.ensures.short in
-    let least = at-lesser.lesser-room.ensures in
+    let least = at-min.min-room.ensures in
     let few = at-start.requires.1.1.1 in
     let l = in-loop.loop-r-test.true in
     omega arith
 
 overflow_add-result-then-left-eq0 : tie.Need-overflow_add-result-then-left-eq0 invariant-loop-r decreases-loop-r
 overflow_add-result-then-left-eq0 c =
-    let at-lesser : tie.After-lesser-room invariant-loop-r decreases-loop-r = search in
+    let at-min : tie.After-min-room invariant-loop-r decreases-loop-r = search in
     let at-slide : tie.After-slide-s invariant-loop-r decreases-loop-r = search in
     let in-loop : tie.In-loop-r invariant-loop-r decreases-loop-r = search in
     let at-start : tie.Start invariant-loop-r decreases-loop-r = search in
     let short = at-slide.slide-s.ensures.short in
-    let least = at-lesser.lesser-room.ensures in
+    let least = at-min.min-room.ensures in
     let few = at-start.requires.1.1.1 in
     let l = in-loop.loop-r-test.true in
     omega arith
@@ -86,7 +86,7 @@ overflow_add-result-then-left-eq0 c =
 returns-then-left-eq0 : tie.Need-returns-then-left-eq0 invariant-loop-r decreases-loop-r
 returns-then-left-eq0 c =
     let at-then1 : tie.Then-s-eq0 invariant-loop-r decreases-loop-r = search in
-    let at-lesser : tie.After-lesser-room invariant-loop-r decreases-loop-r = search in
+    let at-min : tie.After-min-room invariant-loop-r decreases-loop-r = search in
     let at-slide : tie.After-slide-s invariant-loop-r decreases-loop-r = search in
     let in-loop : tie.In-loop-r invariant-loop-r decreases-loop-r = search in
     let at-loop : tie.At-loop-r invariant-loop-r decreases-loop-r = search in
@@ -94,8 +94,8 @@ returns-then-left-eq0 c =
     let s = at-start.args in
     let w = at-loop.loop-r in
     let r = at-slide.slide-s.result in
-    let room = at-lesser.lesser-room.result in
-    let least = at-lesser.lesser-room.ensures in
+    let room = at-min.min-room.result in
+    let least = at-min.min-room.ensures in
     let short = at-slide.slide-s.ensures.short in
     let l = in-loop.loop-r-test.true in
     let some = w.invariant.2.some in
@@ -134,7 +134,7 @@ loop-r-smaller-then-s-eq0 c =
 loop-r-preserved-then-s-eq0 : tie.Need-loop-r-preserved-then-s-eq0 invariant-loop-r decreases-loop-r
 loop-r-preserved-then-s-eq0 c =
     let at-then1 : tie.Then-s-eq0 invariant-loop-r decreases-loop-r = search in
-    let at-lesser : tie.After-lesser-room invariant-loop-r decreases-loop-r = search in
+    let at-min : tie.After-min-room invariant-loop-r decreases-loop-r = search in
     let at-slide : tie.After-slide-s invariant-loop-r decreases-loop-r = search in
     let in-loop : tie.In-loop-r invariant-loop-r decreases-loop-r = search in
     let at-loop : tie.At-loop-r invariant-loop-r decreases-loop-r = search in
@@ -142,8 +142,8 @@ loop-r-preserved-then-s-eq0 c =
     let s = at-start.args in
     let w = at-loop.loop-r in
     let r = at-slide.slide-s.result in
-    let room = at-lesser.lesser-room.result in
-    let least = at-lesser.lesser-room.ensures in
+    let room = at-min.min-room.result in
+    let least = at-min.min-room.ensures in
     let short = at-slide.slide-s.ensures.short in
     let l = in-loop.loop-r-test.true in
     let some = w.invariant.2.some in

@@ -34,7 +34,7 @@ returns-then-left-ne0 c =
     let a = at-start.args in
     let w = at-loop.loop-p in
     place_found a.marks.now a.bit w.p at-sought.sought.result _ at-sought.sought.ensures refl a.k w.invariant
-    c.before.if-left-ne0.true in-loop.loop-p-test.true _ c.smaller.ensures
+    c.before.if-left-ne0.true in-loop.loop-p-test.true _ c.min.ensures
 
 loop-p-preserved : tie.Need-loop-p-preserved invariant-loop-p decreases-loop-p
 loop-p-preserved c =

@@ -23,55 +23,55 @@ overflow_add-w c =
 
 clear_stretch-s-requires : tie.Need-clear_stretch-s-requires invariant-loop-r decreases-loop-r
 clear_stretch-s-requires c κs =
-    let at-lesser : tie.After-lesser-ahead invariant-loop-r decreases-loop-r = search in
+    let at-min : tie.After-min-ahead invariant-loop-r decreases-loop-r = search in
     let at-start : tie.Start invariant-loop-r decreases-loop-r = search in
     let p = at-start.requires in
     let near = p.1.1.0 in
     let few = p.1.1.1 in
-    let least = at-lesser.lesser-ahead.ensures in
+    let least = at-min.min-ahead.ensures in
     (p.0, (p.1.0, (omega arith, omega arith)))
 
 returns-then-s-ne0 : tie.Need-returns-then-s-ne0 invariant-loop-r decreases-loop-r
 returns-then-s-ne0 c =
     let at_clear : tie.After-clear_stretch-s invariant-loop-r decreases-loop-r = search in
-    let at-lesser : tie.After-lesser-ahead invariant-loop-r decreases-loop-r = search in
+    let at-min : tie.After-min-ahead invariant-loop-r decreases-loop-r = search in
     let at-loop : tie.At-loop-r invariant-loop-r decreases-loop-r = search in
     let at-start : tie.Start invariant-loop-r decreases-loop-r = search in
     let s = at-start.args in
     let w = at-loop.loop-r in
     meets_first s.gap s.a.now s.u s.b.now s.v s.bound w.r w.invariant.0 w.invariant.1
-    (meets_now s.gap s.a.now s.u s.b.now (shifted w.r s.v) at-lesser.lesser-ahead.result at_clear.clear_stretch-s.result.first
+    (meets_now s.gap s.a.now s.u s.b.now (shifted w.r s.v) at-min.min-ahead.result at_clear.clear_stretch-s.result.first
     at_clear.clear_stretch-s.ensures.least c.if-s-ne0.true)
 
 overflow_add-r : tie.Need-overflow_add-r invariant-loop-r decreases-loop-r
 overflow_add-r c =
     let at_clear : tie.After-clear_stretch-s invariant-loop-r decreases-loop-r = search in
-    let at-lesser : tie.After-lesser-ahead invariant-loop-r decreases-loop-r = search in
-    omega (arith, at_clear.clear_stretch-s.ensures.within, at-lesser.lesser-ahead.ensures)
+    let at-min : tie.After-min-ahead invariant-loop-r decreases-loop-r = search in
+    omega (arith, at_clear.clear_stretch-s.ensures.within, at-min.min-ahead.ensures)
 
 loop-r-smaller : tie.Need-loop-r-smaller invariant-loop-r decreases-loop-r
 loop-r-smaller c =
     let at-else : tie.Else-s-ne0 invariant-loop-r decreases-loop-r = search in
     let at_clear : tie.After-clear_stretch-s invariant-loop-r decreases-loop-r = search in
-    let at-lesser : tie.After-lesser-ahead invariant-loop-r decreases-loop-r = search in
+    let at-min : tie.After-min-ahead invariant-loop-r decreases-loop-r = search in
     let in-loop : tie.In-loop-r invariant-loop-r decreases-loop-r = search in
     let zero = at-else.if-s-ne0.false in
     let l = in-loop.loop-r-test.true in
-    let least = at-lesser.lesser-ahead.ensures in
+    let least = at-min.min-ahead.ensures in
     omega (arith, at_clear.clear_stretch-s.ensures.some (omega arith))
 
 loop-r-preserved : tie.Need-loop-r-preserved invariant-loop-r decreases-loop-r
 loop-r-preserved c =
     let at-else : tie.Else-s-ne0 invariant-loop-r decreases-loop-r = search in
     let at_clear : tie.After-clear_stretch-s invariant-loop-r decreases-loop-r = search in
-    let at-lesser : tie.After-lesser-ahead invariant-loop-r decreases-loop-r = search in
+    let at-min : tie.After-min-ahead invariant-loop-r decreases-loop-r = search in
     let at-loop : tie.At-loop-r invariant-loop-r decreases-loop-r = search in
     let at-start : tie.Start invariant-loop-r decreases-loop-r = search in
     let s = at-start.args in
     let w = at-loop.loop-r in
     let found = at_clear.clear_stretch-s.ensures in
     let zero = at-else.if-s-ne0.false in
-    let least = at-lesser.lesser-ahead.ensures in (
+    let least = at-min.min-ahead.ensures in (
       omega (arith, found.within),
       free_on s.gap s.a.now s.u s.b.now s.v w.r at_clear.clear_stretch-s.result.end w.invariant.1
           (λ k l. found.free k (omega arith) l),

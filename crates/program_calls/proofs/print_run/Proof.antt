@@ -1,10 +1,10 @@
 -- `program_calls::print_run` meets its contract: the text stands at the front of the local buffer, and is copied where the lent one has room for it.
 -- Assumes nothing.
+use Rattle.std.specs.Prelude.{Err}
 use Rattle.list_laws.proofs.Kit.{◌∙◌, ap, sym, ◌≤◌, ℕ, le_of_eq, arith, length, length-replicate, length-take-le, sets, rules}
 use Rattle.model.specs.Program.{program_text}
 use Rattle.list_laws.proofs.Stores.{sets_filled}
 use Rattle.program_text.specs.Output.{output_bound}
-use Rattle.model.specs.declared.NumberAnswer.{NumberAnswer}
 use Rattle.program_calls.proofs.Printing.{TextLeaves, front_written, leaves_short, leaves_written, workspace_left}
 use Rattle.program_calls.proofs.print_run.Statement.{statement}
 use Rattle.program_calls.proofs.print_run.Tie as tie
@@ -28,7 +28,7 @@ returns-then-short c =
     let w = at-print-text.print_text-count.ensures in
     let end = w.end in
     let long = c.if-short.true in
-    let t : TextLeaves a.input.now a.output.now (NumberAnswer.Refused c.plain_refusal.result) a.output.now =
+    let t : TextLeaves a.input.now a.output.now (Err c.plain_refusal.result) a.output.now =
     rw c.plain_refusal.ensures (leaves_short a.input.now a.output.now (omega arith) w.short) in
     let left = workspace_left a.input.now (length a.output.now) a.workspace.now at-print-text.print_text-count.new.workspace
     used.words_used-used.result used.words_used-used.ensures

@@ -28,8 +28,8 @@ slice_bounds-guided_run-end c =
     (pairs_few _ _ (fitting at-start.args.size at-start.args.table.now at-start.args.pixels.now at-start.requires.0).few_pieces
     c.pair_count-pairs.ensures)
 
-returns-in-Ran : tie.Need-returns-in-Ran
-returns-in-Ran c =
+returns-in-Ok : tie.Need-returns-in-Ok
+returns-in-Ok c =
     let at-guided-run : tie.After-guided_run = search in
     let at-pair-count : tie.After-pair_count-pairs = search in
     let at-after-start : tie.After-start_job = search in
@@ -39,11 +39,11 @@ returns-in-Ran c =
     let o = run_given l _ _ at-start.requires.0 at-after-start.start_job.ensures
     (ones a.size.count _ (fitting at-start.args.size at-start.args.table.now at-start.args.pixels.now at-start.requires.0).few_pieces
     at-pair-count.pair_count-pairs.ensures) in
-    run_gives _ (program_run (job_of l)) o _ _ _ (sym c.in-Ran.is ∙ at-guided-run.guided_run.ensures.0)
+    run_gives _ (program_run (job_of l)) o _ _ _ (sym c.in-Ok.is ∙ at-guided-run.guided_run.ensures.0)
     at-guided-run.guided_run.ensures.1.0
 
-returns-in-Refused : tie.Need-returns-in-Refused
-returns-in-Refused c =
+returns-in-Err : tie.Need-returns-in-Err
+returns-in-Err c =
     let at-guided-run : tie.After-guided_run = search in
     let at-pair-count : tie.After-pair_count-pairs = search in
     let at-after-start : tie.After-start_job = search in
@@ -53,10 +53,10 @@ returns-in-Refused c =
     let o = run_given l _ _ at-start.requires.0 at-after-start.start_job.ensures
     (ones a.size.count _ (fitting at-start.args.size at-start.args.table.now at-start.args.pixels.now at-start.requires.0).few_pieces
     at-pair-count.pair_count-pairs.ensures) in
-    absurd (run_not_refused _ (program_run (job_of l)) o _ (sym c.in-Refused.is ∙ at-guided-run.guided_run.ensures.0))
+    absurd (run_not_refused _ (program_run (job_of l)) o _ (sym c.in-Err.is ∙ at-guided-run.guided_run.ensures.0))
 
 pub run_job_spec : {M : Type 1} → statement M
 run_job_spec =
     tie.close (tie.spec
     start_job-requires pair_count-pairs-requires slice_bounds-weights-end slice_bounds-guided_run-end (search rules) (search rules) (search rules)
-    (search rules) (search rules) returns-in-Ran (search rules) (search rules) returns-in-Refused)
+    (search rules) (search rules) returns-in-Ok (search rules) (search rules) returns-in-Err)

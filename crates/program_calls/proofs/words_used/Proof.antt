@@ -1,5 +1,5 @@
 -- `program_calls::words_used` meets its contract. Assumes nothing.
-use Rattle.list_laws.proofs.Kit.{refl, arith, rules}
+use Rattle.list_laws.proofs.Kit.{refl, arith}
 use Rattle.program_calls.proofs.words_used.Statement.{statement}
 use Rattle.program_calls.proofs.words_used.Tie as tie
 

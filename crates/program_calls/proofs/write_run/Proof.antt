@@ -35,25 +35,25 @@ put_end_line-requires c κs =
     let p = at-start.requires in
     let long = p.1 in
     let w = text_taken l a.layout.now p.0 a.text.now (omega arith) _ _
-    (sym c.in-Number-write_layout.is ∙ at-write-layout.write_layout.ensures.0) at-write-layout.write_layout.ensures.1 in
+    (sym c.in-Ok-write_layout.is ∙ at-write-layout.write_layout.ensures.0) at-write-layout.write_layout.ensures.1 in
     let end = w.end in
     let short = w.short in
     omega arith
 
 returns : tie.Need-returns
 returns c =
-    let at_next : tie.In-Number-write_layout = search in
+    let at_next : tie.In-Ok-write_layout = search in
     let at-write-layout : tie.After-write_layout = search in
-    let at-used : tie.In-Number = search in
+    let at-used : tie.In-Ok = search in
     let at-used-length : tie.After-used_length = search in
     let at-start : tie.Start = search in
     let a = at-start.args in
     let l : Lent = lent_by a.size a.table.now a.pixels.now in
     let p = at-start.requires in
     let long = p.1 in
-    let w = text_taken l a.layout.now p.0 a.text.now (omega arith) _ _ (sym at_next.in-Number-write_layout.is ∙ at-write-layout.write_layout.ensures.0)
+    let w = text_taken l a.layout.now p.0 a.text.now (omega arith) _ _ (sym at_next.in-Ok-write_layout.is ∙ at-write-layout.write_layout.ensures.0)
     at-write-layout.write_layout.ensures.1 in
-    let used = used_taken l a.layout.now p.0 _ (sym at-used.in-Number.is ∙ at-used-length.used_length.ensures.0) in
+    let used = used_taken l a.layout.now p.0 _ (sym at-used.in-Ok.is ∙ at-used-length.used_length.ensures.0) in
     run_written (job_of l) a.run (layout_of a.layout.now) _ _ _ _ _ _ used w c.put_end_line.ensures
 
 pub write_run_spec : {M : Type 1} → statement M

@@ -192,12 +192,12 @@ returns-in_default c =
     )
 
 -- the place that was found
-place : (c : tie.In-Moved) →
+place : (c : tie.In-Some) →
     let at-try-trial : tie.After-try_trial = search in
-    MovedTo (sought (summed (at-try-trial))) c.in-Moved.found
+    MovedTo (sought (summed (at-try-trial))) c.in-Some.found
 place c =
     let at-try-trial : tie.After-try_trial = search in
-    tried_moved _ _ (sym c.in-Moved.is ∙ at-try-trial.try_trial.ensures.0)
+    tried_moved _ _ (sym c.in-Some.is ∙ at-try-trial.try_trial.ensures.0)
 
 overflow_sub-sum : tie.Need-overflow_sub-sum
 overflow_sub-sum c =
@@ -213,7 +213,7 @@ overflow_add-sum c =
     let at-row-sum : tie.After-row_sum-present = search in
     let e = entry at-row-sum in
     let j = job_of (lent e) in
-    let told : tie.In-Moved = search in
+    let told : tie.In-Some = search in
     let m = place told in
     let is = present at-row-sum in
     let most = piece_at_most j e.args.weights.now (layoutAt e) (trial_at at-row-sum).piece in
@@ -235,7 +235,7 @@ returns c =
     let e = entry b in
     let j = job_of (lent e) in
     let ws = e.args.weights.now in
-    let told : tie.In-Moved = search in
+    let told : tie.In-Some = search in
     let m = place told in
     let r = c.after_move in
     let there : left at-try-trial ≡ trial_moved (layoutAt e) (trial_at b) m.best.at =
@@ -244,7 +244,7 @@ returns c =
     trial_moved_lem j ws (layoutAt e) (trial_at b) m.best m.found ∙ ap moved (sym there) in
     let lowered : weighted_sum j ws (left at-try-trial) ≡ weighted_sum j ws (layoutAt e) - piece_sum j ws (layoutAt e) (trial_at b).piece + m.best.sum =
     ap (weighted_sum j ws) there ∙ trial_sum j ws (layoutAt e) (trial_at b) m.best m.found in
-    let now : r.result.sum ≡ e.args.at.sum - b.row_sum-present.result + c.in-Moved.found = ap (λ (s : DescentState). s.sum) r.ensures in
+    let now : r.result.sum ≡ e.args.at.sum - b.row_sum-present.result + c.in-Some.found = ap (λ (s : DescentState). s.sum) r.ensures in
     let is = present b in
     let sum = e.requires.1.1.1.1.0 in
     let least = m.sum in (

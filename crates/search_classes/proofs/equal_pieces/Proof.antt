@@ -1,5 +1,5 @@
 -- `search_classes::equal_pieces` meets its contract: the sides agree, and the bytes from both starts on. Assumes nothing.
-use Rattle.list_laws.proofs.Kit.{◌∙◌, ◌≡◌, ap, ap₂, sym, ◌*◌, ◌+◌, ◌<◌, ℕ, arith, false≢true, get_or, rules}
+use Rattle.list_laws.proofs.Kit.{◌∙◌, ◌≡◌, ap, ap₂, sym, ◌*◌, ◌+◌, ℕ, arith, false≢true, get_or}
 use Rattle.model.specs.Lent.{Lent, lent_by, entry_columns, entry_rows, entry_area}
 use Rattle.search_classes.proofs.Equals.{Stored, stored, bytes_equal}
 use Rattle.search_classes.proofs.equal_pieces.Statement.{statement}

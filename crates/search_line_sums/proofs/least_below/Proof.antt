@@ -1,6 +1,5 @@
 -- `search_line_sums::least_below` meets its contract: no sum is below the bound, or the least one is looked for. Assumes nothing.
 use Rattle.list_laws.proofs.Kit.{◌∙◌, sym, rules}
-use Rattle.list_laws.proofs.Tests.{said_no}
 use Rattle.search_line_sums.proofs.Scans.{scan_nothing}
 use Rattle.search_line_sums.proofs.least_below.Statement.{statement}
 use Rattle.search_line_sums.proofs.least_below.Tie as tie

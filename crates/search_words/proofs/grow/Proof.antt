@@ -20,9 +20,9 @@ loop-done-init c =
 overflow_mul-step : tie.Need-overflow_mul-step invariant-loop-done decreases-loop-done
 overflow_mul-step c =
     let at-start : tie.Start invariant-loop-done decreases-loop-done = search in
-    let at-smaller : tie.After-smaller-step invariant-loop-done decreases-loop-done = search in
-    let e = at-smaller.smaller-step.ensures in
-    let h : at-smaller.smaller-step.result * at-start.args.unit ≤ at-start.args.n * at-start.args.unit =
+    let at-step : tie.After-min-step invariant-loop-done decreases-loop-done = search in
+    let e = at-step.min-step.ensures in
+    let h : at-step.min-step.result * at-start.args.unit ≤ at-start.args.n * at-start.args.unit =
     mul-le-mul_right at-start.args.unit (omega arith) in
     omega arith
 
@@ -33,13 +33,13 @@ loop-done-preserved : tie.Need-loop-done-preserved invariant-loop-done decreases
 loop-done-preserved c =
     let at-start : tie.Start invariant-loop-done decreases-loop-done = search in
     let at-loop : tie.At-loop-done invariant-loop-done decreases-loop-done = search in
-    let at-smaller : tie.After-smaller-step invariant-loop-done decreases-loop-done = search in
+    let at-step : tie.After-min-step invariant-loop-done decreases-loop-done = search in
     let at-spread : tie.After-spread invariant-loop-done decreases-loop-done = search in
     let a = at-start.args in
     let o = at-loop.loop-done in
-    let e = at-smaller.smaller-step.ensures in
+    let e = at-step.min-step.ensures in
     let g =
-    repeated_more a.count a.unit a.words.now o.words _ o.done at-smaller.smaller-step.result (omega arith) o.invariant.3
+    repeated_more a.count a.unit a.words.now o.words _ o.done at-step.min-step.result (omega arith) o.invariant.3
     at-spread.spread.ensures in
     (omega arith, omega arith, g.same, g)
 

@@ -15,14 +15,14 @@ use Rattle.sheet_calls.specs.Answers.{blank_record, record_of, given_answer}
 use Rattle.sheet_refusals.specs.Causes.{sheet_of}
 use Rattle.sheet_lists.proofs.run_calls.Tie as tie
 
-returns-in-Refused : tie.Need-returns-in-Refused
-returns-in-Refused c =
+returns-in-Err : tie.Need-returns-in-Err
+returns-in-Err c =
     let at-fresh : tie.After-fresh-start = search in
     let at-start : tie.Start = search in
     let a = at-start.args in
     let l = lent_by a.size a.table.now a.pixels.now in
     let start = at-fresh.fresh-start in
-    let no = c.in-Refused.is in
+    let no = c.in-Err.is in
     let run = refused_run l a.calls.now a.counts.now _ start.result start.ensures.0 start.ensures.1 _ no in
     (run.0, (run.1, λ so. let z : ◌≡◌ {A = ℕ} 0 1 = cc in absurd (omega arith)))
 
@@ -62,4 +62,4 @@ returns c =
 pub run_calls_spec : {M : Type 1} → statement M
 run_calls_spec =
     tie.close (tie.spec
-    (search rules) (search rules) (search rules) returns-in-Refused (search rules) run_from-sheet-requires (search rules) returns)
+    (search rules) (search rules) (search rules) returns-in-Err (search rules) run_from-sheet-requires (search rules) returns)

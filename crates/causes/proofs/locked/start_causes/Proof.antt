@@ -2,7 +2,6 @@
 use Rattle.list_laws.proofs.Kit.{◌∙◌, ◌≡◌, ap, sym, false, not, true, length, rules, eq-eqb, ne_eqb}
 use Rattle.model.specs.Lent.{Lent, lent_by, lent_well, job_of}
 use Rattle.model.specs.Calls.{locked_turn_wrong}
-use Rattle.list_laws.proofs.Tests.{said_no, said_yes}
 use Rattle.job_laws.proofs.Checked.{facts}
 use Rattle.text_laws.proofs.Causes.{there, next, no_more}
 use Rattle.descent_laws.proofs.Run.{impossible}

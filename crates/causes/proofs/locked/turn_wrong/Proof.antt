@@ -1,7 +1,7 @@
 -- `causes::locked::turn_wrong` meets its contract: a free piece's turn is not asked. Assumes nothing.
 use Rattle.list_laws.proofs.Kit.{◌∙◌, sym, rules}
 use Rattle.model.specs.Lent.{job_of}
-use Rattle.list_laws.proofs.Tests.{said_no, said_yes, clash}
+use Rattle.list_laws.proofs.Tests.{clash}
 use Rattle.causes.proofs.locked.turn_wrong.Statement.{statement}
 use Rattle.causes.proofs.locked.turn_wrong.Tie as tie
 

@@ -1,6 +1,6 @@
 -- `search_bounded::others::add_others` meets its contract. The loop's invariant: the sums are those of the pieces before the next one that is
 -- left. Assumes nothing.
-use Rattle.list_laws.proofs.Kit.{◌∙◌, ◌≡◌, refl, ◌-◌, arith, length, rules}
+use Rattle.list_laws.proofs.Kit.{◌∙◌, ◌≡◌, refl, arith, length, rules}
 use Rattle.model.specs.Lent.{lent_by, job_of}
 use Rattle.model.specs.Buffer.{layout_of}
 use Rattle.job_laws.proofs.Checked.{facts}

@@ -25,38 +25,38 @@ answered : (c : tie.After-cut_lines) → let at-start : tie.Start = search in c.
 unfolding outcome
 answered c = let sized : tie.After-size_of = search in rw sized.size_of.ensures at c.cut_lines.ensures.0
 
-shape_of-lines-in-Number : tie.Need-shape_of-lines-in-Number
-shape_of-lines-in-Number c = let called : tie.After-cut_lines = search in called.cut_lines.auto.lines
+shape_of-lines-in-Ok : tie.Need-shape_of-lines-in-Ok
+shape_of-lines-in-Ok c = let called : tie.After-cut_lines = search in called.cut_lines.auto.lines
 
-returns-in-Number : tie.Need-returns-in-Number
+returns-in-Ok : tie.Need-returns-in-Ok
 unfolding outcome
-returns-in-Number c =
+returns-in-Ok c =
     let called : tie.After-cut_lines = search in
     let sized : tie.After-size_of = search in
     let at-start : tie.Start = search in
     let o = outcome at-start in
-    let t = count_told o (sym c.in-Number.is ∙ answered called) in (
+    let t = count_told o (sym c.in-Ok.is ∙ answered called) in (
       c.done.ensures ∙ reply_by (λ ls. length ls) o t,
       (
         rw sized.size_of.ensures at called.cut_lines.ensures.1.0,
         (
           leaves_by (λ ls. length ls) (λ k. k) _ o t,
-          λ zero. rw sized.size_of.ensures at (called.cut_lines.ensures.1.1 _ c.in-Number.is),
+          λ zero. rw sized.size_of.ensures at (called.cut_lines.ensures.1.1 _ c.in-Ok.is),
         ),
       ),
     )
 
-shape_of-lines-in-Refused : tie.Need-shape_of-lines-in-Refused
-shape_of-lines-in-Refused c = let called : tie.After-cut_lines = search in called.cut_lines.auto.lines
+shape_of-lines-in-Err : tie.Need-shape_of-lines-in-Err
+shape_of-lines-in-Err c = let called : tie.After-cut_lines = search in called.cut_lines.auto.lines
 
-returns-in-Refused : tie.Need-returns-in-Refused
+returns-in-Err : tie.Need-returns-in-Err
 unfolding outcome
-returns-in-Refused c =
+returns-in-Err c =
     let called : tie.After-cut_lines = search in
     let sized : tie.After-size_of = search in
     let at-start : tie.Start = search in
     let o = outcome at-start in
-    let t = count_told o (sym c.in-Refused.is ∙ answered called) in
+    let t = count_told o (sym c.in-Err.is ∙ answered called) in
     let positive = cut_lines_numbered (lent at-start) at-start.args.layout.now _ _ (refusal_told (λ ls. length ls) o _ t) in
     let number = ap (λ (x : Reply). x.number) c.refused.ensures in (
       c.refused.ensures ∙ reply_by (λ ls. length ls) o t,
@@ -70,5 +70,5 @@ pub sigbrol_cut_lines_spec : {M : Type 1} → statement M
 sigbrol_cut_lines_spec =
     tie.close
     (tie.spec
-    (search rules) (search rules) (search rules) (search rules) (search rules) (search rules) shape_of-lines-in-Number returns-in-Number
-    shape_of-lines-in-Refused returns-in-Refused)
+    (search rules) (search rules) (search rules) (search rules) (search rules) (search rules) shape_of-lines-in-Ok returns-in-Ok
+    shape_of-lines-in-Err returns-in-Err)

@@ -26,16 +26,16 @@ answered : (c : tie.After-cut_step) → let at-start : tie.Start = search in c.c
 unfolding outcome
 answered c = let sized : tie.After-size_of = search in rw sized.size_of.ensures at c.cut_step.ensures.0
 
-returns-in-Step : tie.Need-returns-in-Step
+returns-in-Ok : tie.Need-returns-in-Ok
 unfolding outcome
-returns-in-Step c =
+returns-in-Ok c =
     let handed : tie.After-put_step = search in
-    let how : tie.In-Step = search in
+    let how : tie.In-Ok = search in
     let called : tie.After-cut_step = search in
     let sized : tie.After-size_of = search in
     let at-start : tie.Start = search in
     let o = outcome at-start in
-    let t = step_told_lem o (sym how.in-Step.is ∙ answered called) in
+    let t = step_told_lem o (sym how.in-Ok.is ∙ answered called) in
     let put = handed.put_step.ensures in (
       c.done.ensures ∙ reply_by (λ a. a) o t,
       (
@@ -45,20 +45,20 @@ returns-in-Step c =
           (
             put.1.1 ∙ leaves_by (λ a. a) (step_y _) _ o t,
             λ zero.
-                let claims = rw sized.size_of.ensures at (called.cut_step.ensures.1 _ how.in-Step.is) in
+                let claims = rw sized.size_of.ensures at (called.cut_step.ensures.1 _ how.in-Ok.is) in
                 (claims.0, rw (put.0, put.1.0, put.1.1, told_back _ _ _) claims.1),
           ),
         ),
       ),
     )
 
-returns-in-Refused : tie.Need-returns-in-Refused
+returns-in-Err : tie.Need-returns-in-Err
 unfolding outcome
-returns-in-Refused c =
+returns-in-Err c =
     let called : tie.After-cut_step = search in
     let at-start : tie.Start = search in
     let o = outcome at-start in
-    let t = step_told_lem o (sym c.in-Refused.is ∙ answered called) in
+    let t = step_told_lem o (sym c.in-Err.is ∙ answered called) in
     let positive = cut_step_numbered (lent at-start) at-start.args.layout.now _ _ _ (refusal_told (λ a. a) o _ t) in
     let number = ap (λ (x : Reply). x.number) c.refused.ensures in (
       c.refused.ensures ∙ reply_by (λ a. a) o t,
@@ -75,4 +75,4 @@ pub sigbrol_cut_step_spec : {M : Type 1} → statement M
 sigbrol_cut_step_spec =
     tie.close
     (tie.spec
-    (search rules) (search rules) (search rules) (search rules) (search rules) (search rules) (search rules) returns-in-Step returns-in-Refused)
+    (search rules) (search rules) (search rules) (search rules) (search rules) (search rules) (search rules) returns-in-Ok returns-in-Err)

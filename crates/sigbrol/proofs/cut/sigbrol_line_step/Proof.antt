@@ -30,15 +30,15 @@ layout-steps : (s : tie.Start) (l : Lent) (layout before : List (List ℕ)) (ls 
 layout-steps s l layout before ls e same =
     ap (λ (xs : List (List ℕ)). line_step_call xs s.args.pitch s.args.step) same ∙ same_steps l layout before ls s.args.pitch s.args.step e
 
-returns-in-Step : tie.Need-returns-in-Step
+returns-in-Ok : tie.Need-returns-in-Ok
 unfolding outcome
-returns-in-Step c =
+returns-in-Ok c =
     let handed : tie.After-put_step = search in
-    let how : tie.In-Step = search in
+    let how : tie.In-Ok = search in
     let called : tie.After-line_step = search in
     let at-start : tie.Start = search in
     let o = outcome at-start in
-    let t = step_told_lem o (sym how.in-Step.is ∙ answered called) in
+    let t = step_told_lem o (sym how.in-Ok.is ∙ answered called) in
     let put = handed.put_step.ensures in (
       c.done.ensures ∙ reply_by (λ a. a) o t,
       (
@@ -50,20 +50,20 @@ returns-in-Step c =
             (
               layout-steps at-start,
               λ zero.
-                  rw (put.0, put.1.0, put.1.1, told_back _ _ _) (called.line_step.ensures.1.1 _ how.in-Step.is),
+                  rw (put.0, put.1.0, put.1.1, told_back _ _ _) (called.line_step.ensures.1.1 _ how.in-Ok.is),
             ),
           ),
         ),
       ),
     )
 
-returns-in-Refused : tie.Need-returns-in-Refused
+returns-in-Err : tie.Need-returns-in-Err
 unfolding outcome
-returns-in-Refused c =
+returns-in-Err c =
     let called : tie.After-line_step = search in
     let at-start : tie.Start = search in
     let o = outcome at-start in
-    let t = step_told_lem o (sym c.in-Refused.is ∙ answered called) in
+    let t = step_told_lem o (sym c.in-Err.is ∙ answered called) in
     let positive = line_step_numbered at-start.args.lines.now _ _ _ (refusal_told (λ a. a) o _ t) in
     let number = ap (λ (x : Reply). x.number) c.refused.ensures in (
       c.refused.ensures ∙ reply_by (λ a. a) o t,
@@ -83,4 +83,4 @@ pub sigbrol_line_step_spec : {M : Type 1} → statement M
 sigbrol_line_step_spec =
     tie.close
     (tie.spec
-    (search rules) (search rules) (search rules) (search rules) (search rules) (search rules) returns-in-Step returns-in-Refused)
+    (search rules) (search rules) (search rules) (search rules) (search rules) (search rules) returns-in-Ok returns-in-Err)

@@ -29,22 +29,22 @@ enum_known-refusal c = search rules
 refused-requires : tie.Need-refused-requires
 refused-requires c κs = tt
 
-shape_of-table-in-Read : tie.Need-shape_of-table-in-Read
-shape_of-table-in-Read c = let read : tie.After-read_job = search in read.read_job.auto.table
+shape_of-table-in-Ok : tie.Need-shape_of-table-in-Ok
+shape_of-table-in-Ok c = let read : tie.After-read_job = search in read.read_job.auto.table
 
-shape_of-pixels-in-Read : tie.Need-shape_of-pixels-in-Read
-shape_of-pixels-in-Read c = let read : tie.After-read_job = search in read.read_job.auto.pixels
+shape_of-pixels-in-Ok : tie.Need-shape_of-pixels-in-Ok
+shape_of-pixels-in-Ok c = let read : tie.After-read_job = search in read.read_job.auto.pixels
 
-returns-in-Read : tie.Need-returns-in-Read
+returns-in-Ok : tie.Need-returns-in-Ok
 unfolding outcome
-returns-in-Read c =
+returns-in-Ok c =
     let put : tie.After-put_size = search in
-    let size : tie.In-Read = search in
+    let size : tie.In-Ok = search in
     let read : tie.After-read_job = search in
     let s : tie.Start = search in
     let o = outcome s in
     let l = read.read_job.ensures in
-    let t = job_told_lem o (sym size.in-Read.is ∙ l.answers) in
+    let t = job_told_lem o (sym size.in-Ok.is ∙ l.answers) in
     let numbers = put.put_size.ensures in (
       c.done.ensures ∙ reply_by size_in o t,
       (
@@ -62,21 +62,21 @@ returns-in-Read c =
       ),
     )
 
-shape_of-table-in-Refused : tie.Need-shape_of-table-in-Refused
-shape_of-table-in-Refused c = let read : tie.After-read_job = search in read.read_job.auto.table
+shape_of-table-in-Err : tie.Need-shape_of-table-in-Err
+shape_of-table-in-Err c = let read : tie.After-read_job = search in read.read_job.auto.table
 
-shape_of-pixels-in-Refused : tie.Need-shape_of-pixels-in-Refused
-shape_of-pixels-in-Refused c = let read : tie.After-read_job = search in read.read_job.auto.pixels
+shape_of-pixels-in-Err : tie.Need-shape_of-pixels-in-Err
+shape_of-pixels-in-Err c = let read : tie.After-read_job = search in read.read_job.auto.pixels
 
-returns-in-Refused : tie.Need-returns-in-Refused
+returns-in-Err : tie.Need-returns-in-Err
 unfolding outcome
-returns-in-Refused c =
-    let why : tie.In-Refused = search in
+returns-in-Err c =
+    let why : tie.In-Err = search in
     let read : tie.After-read_job = search in
     let s : tie.Start = search in
     let o = outcome s in
     let l = read.read_job.ensures in
-    let t = job_told_lem o (sym why.in-Refused.is ∙ l.answers) in (
+    let t = job_told_lem o (sym why.in-Err.is ∙ l.answers) in (
       c.refused.ensures ∙ reply_by size_in o t,
       (
         l.entries,
@@ -94,5 +94,5 @@ pub sigbrol_read_job_spec : {M : Type 1} → statement M
 sigbrol_read_job_spec =
     tie.close
     (tie.spec
-    read_job-requires enum_known-size put_size-requires done-requires enum_known-refusal refused-requires shape_of-table-in-Read
-    shape_of-pixels-in-Read returns-in-Read shape_of-table-in-Refused shape_of-pixels-in-Refused returns-in-Refused)
+    read_job-requires enum_known-size put_size-requires done-requires enum_known-refusal refused-requires shape_of-table-in-Ok
+    shape_of-pixels-in-Ok returns-in-Ok shape_of-table-in-Err shape_of-pixels-in-Err returns-in-Err)

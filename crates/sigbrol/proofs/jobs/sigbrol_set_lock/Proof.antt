@@ -23,38 +23,38 @@ answered c =
     let at-size-of : tie.After-size_of = search in
     rw at-size-of.size_of.ensures at c.set_lock.ensures.0
 
-shape_of-table-in-Done : tie.Need-shape_of-table-in-Done
-shape_of-table-in-Done c =
+shape_of-table-in-Ok : tie.Need-shape_of-table-in-Ok
+shape_of-table-in-Ok c =
     let at-set-lock : tie.After-set_lock = search in
     at-set-lock.set_lock.auto.table
 
-returns-in-Done : tie.Need-returns-in-Done
+returns-in-Ok : tie.Need-returns-in-Ok
 unfolding outcome
-returns-in-Done c =
+returns-in-Ok c =
     let at-set-lock : tie.After-set_lock = search in
     let at-size-of : tie.After-size_of = search in
     let at-start : tie.Start = search in
     let o = outcome (at-start) in
-    let t = done_told_lem o (sym c.in-Done.is ∙ answered (at-set-lock)) in
+    let t = done_told_lem o (sym c.in-Ok.is ∙ answered (at-set-lock)) in
     (c.done.ensures ∙ reply_by (λ v. tt) o t, rw at-size-of.size_of.ensures at at-set-lock.set_lock.ensures.1)
 
-shape_of-table-in-Refused : tie.Need-shape_of-table-in-Refused
-shape_of-table-in-Refused c =
+shape_of-table-in-Err : tie.Need-shape_of-table-in-Err
+shape_of-table-in-Err c =
     let at-set-lock : tie.After-set_lock = search in
     at-set-lock.set_lock.auto.table
 
-returns-in-Refused : tie.Need-returns-in-Refused
+returns-in-Err : tie.Need-returns-in-Err
 unfolding outcome
-returns-in-Refused c =
+returns-in-Err c =
     let at-set-lock : tie.After-set_lock = search in
     let at-size-of : tie.After-size_of = search in
     let at-start : tie.Start = search in
     let o = outcome (at-start) in
-    let t = done_told_lem o (sym c.in-Refused.is ∙ answered (at-set-lock)) in
+    let t = done_told_lem o (sym c.in-Err.is ∙ answered (at-set-lock)) in
     (c.refused.ensures ∙ reply_by (λ v. tt) o t, rw at-size-of.size_of.ensures at at-set-lock.set_lock.ensures.1)
 
 pub sigbrol_set_lock_spec : {M : Type 1} → statement M
 sigbrol_set_lock_spec =
     tie.close (tie.spec
-    (search rules) (search rules) (search rules) (search rules) (search rules) (search rules) shape_of-table-in-Done returns-in-Done
-    shape_of-table-in-Refused returns-in-Refused)
+    (search rules) (search rules) (search rules) (search rules) (search rules) (search rules) shape_of-table-in-Ok returns-in-Ok
+    shape_of-table-in-Err returns-in-Err)

@@ -37,26 +37,26 @@ enum_known-refusal c = search rules
 refused-requires : tie.Need-refused-requires
 refused-requires c κs = tt
 
-returns-in-Done : tie.Need-returns-in-Done
+returns-in-Ok : tie.Need-returns-in-Ok
 unfolding outcome
-returns-in-Done c =
+returns-in-Ok c =
     let at-check : tie.After-check = search in
     let at-start : tie.Start = search in
     let o = outcome (at-start) in
-    let t = done_told_lem o (sym c.in-Done.is ∙ answered (at-check)) in
+    let t = done_told_lem o (sym c.in-Ok.is ∙ answered (at-check)) in
     c.done.ensures ∙ reply_by (λ u. tt) o t
 
-returns-in-Refused : tie.Need-returns-in-Refused
+returns-in-Err : tie.Need-returns-in-Err
 unfolding outcome
-returns-in-Refused c =
+returns-in-Err c =
     let at-check : tie.After-check = search in
     let at-start : tie.Start = search in
     let o = outcome (at-start) in
-    let t = done_told_lem o (sym c.in-Refused.is ∙ answered (at-check)) in
+    let t = done_told_lem o (sym c.in-Err.is ∙ answered (at-check)) in
     c.refused.ensures ∙ reply_by (λ u. tt) o t
 
 pub sigbrol_check_spec : {M : Type 1} → statement M
 sigbrol_check_spec =
     tie.close
     (tie.spec
-    size_of-requires check-requires enum_told-1 done-requires enum_known-refusal refused-requires returns-in-Done returns-in-Refused)
+    size_of-requires check-requires enum_told-1 done-requires enum_known-refusal refused-requires returns-in-Ok returns-in-Err)

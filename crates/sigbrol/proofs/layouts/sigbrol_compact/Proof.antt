@@ -24,38 +24,38 @@ answered : (c : tie.After-compact) → let at-start : tie.Start = search in c.co
 unfolding outcome
 answered c = let sized : tie.After-size_of = search in rw sized.size_of.ensures at c.compact.ensures.0
 
-shape_of-layout-in-Number : tie.Need-shape_of-layout-in-Number
-shape_of-layout-in-Number c = let called : tie.After-compact = search in called.compact.auto.layout
+shape_of-layout-in-Ok : tie.Need-shape_of-layout-in-Ok
+shape_of-layout-in-Ok c = let called : tie.After-compact = search in called.compact.auto.layout
 
-returns-in-Number : tie.Need-returns-in-Number
+returns-in-Ok : tie.Need-returns-in-Ok
 unfolding outcome
-returns-in-Number c =
+returns-in-Ok c =
     let called : tie.After-compact = search in
     let sized : tie.After-size_of = search in
     let at-start : tie.Start = search in
     let o = outcome at-start in
-    let t = slid_told o (sym c.in-Number.is ∙ answered called) in (
+    let t = slid_told o (sym c.in-Ok.is ∙ answered called) in (
       c.done.ensures ∙ reply_by (λ (a : Compacted). a.slid) o t,
       (
         rw sized.size_of.ensures at called.compact.ensures.1.0,
         (
           leaves_by (λ (a : Compacted). a.slid) (λ k. k) _ o t,
-          λ zero. rw sized.size_of.ensures at (called.compact.ensures.1.1 _ c.in-Number.is),
+          λ zero. rw sized.size_of.ensures at (called.compact.ensures.1.1 _ c.in-Ok.is),
         ),
       ),
     )
 
-shape_of-layout-in-Refused : tie.Need-shape_of-layout-in-Refused
-shape_of-layout-in-Refused c = let called : tie.After-compact = search in called.compact.auto.layout
+shape_of-layout-in-Err : tie.Need-shape_of-layout-in-Err
+shape_of-layout-in-Err c = let called : tie.After-compact = search in called.compact.auto.layout
 
-returns-in-Refused : tie.Need-returns-in-Refused
+returns-in-Err : tie.Need-returns-in-Err
 unfolding outcome
-returns-in-Refused c =
+returns-in-Err c =
     let called : tie.After-compact = search in
     let sized : tie.After-size_of = search in
     let at-start : tie.Start = search in
     let o = outcome at-start in
-    let t = slid_told o (sym c.in-Refused.is ∙ answered called) in
+    let t = slid_told o (sym c.in-Err.is ∙ answered called) in
     let positive = compact_numbered (lent at-start) at-start.args.layout.now _ (refusal_told (λ (a : Compacted). a.slid) o _ t) in
     let number = ap (λ (x : Reply). x.number) c.refused.ensures in (
       c.refused.ensures ∙ reply_by (λ (a : Compacted). a.slid) o t,
@@ -69,5 +69,5 @@ pub sigbrol_compact_spec : {M : Type 1} → statement M
 sigbrol_compact_spec =
     tie.close
     (tie.spec
-    (search rules) (search rules) (search rules) (search rules) (search rules) (search rules) shape_of-layout-in-Number returns-in-Number
-    shape_of-layout-in-Refused returns-in-Refused)
+    (search rules) (search rules) (search rules) (search rules) (search rules) (search rules) shape_of-layout-in-Ok returns-in-Ok
+    shape_of-layout-in-Err returns-in-Err)

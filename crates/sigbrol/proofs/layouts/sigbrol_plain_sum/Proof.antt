@@ -37,26 +37,26 @@ enum_known-refusal c = search rules
 refused-requires : tie.Need-refused-requires
 refused-requires c κs = tt
 
-returns-in-Number : tie.Need-returns-in-Number
+returns-in-Ok : tie.Need-returns-in-Ok
 unfolding outcome
-returns-in-Number c =
+returns-in-Ok c =
     let at-plain-sum : tie.After-plain_sum = search in
     let at-start : tie.Start = search in
     let o = outcome (at-start) in
-    let t = number_told_lem o (sym c.in-Number.is ∙ answered (at-plain-sum)) in
+    let t = number_told_lem o (sym c.in-Ok.is ∙ answered (at-plain-sum)) in
     (c.done.ensures ∙ reply_by (λ k. k) o t, leaves_by (λ k. k) (λ k. k) _ o t)
 
-returns-in-Refused : tie.Need-returns-in-Refused
+returns-in-Err : tie.Need-returns-in-Err
 unfolding outcome
-returns-in-Refused c =
+returns-in-Err c =
     let at-plain-sum : tie.After-plain_sum = search in
     let at-start : tie.Start = search in
     let o = outcome (at-start) in
-    let t = number_told_lem o (sym c.in-Refused.is ∙ answered (at-plain-sum)) in
+    let t = number_told_lem o (sym c.in-Err.is ∙ answered (at-plain-sum)) in
     (c.refused.ensures ∙ reply_by (λ k. k) o t, leaves_by (λ k. k) (λ k. k) _ o t)
 
 pub sigbrol_plain_sum_spec : {M : Type 1} → statement M
 sigbrol_plain_sum_spec =
     tie.close
     (tie.spec
-    size_of-requires plain_sum-requires enum_known-total done-requires enum_known-refusal refused-requires returns-in-Number returns-in-Refused)
+    size_of-requires plain_sum-requires enum_known-total done-requires enum_known-refusal refused-requires returns-in-Ok returns-in-Err)

@@ -27,17 +27,17 @@ answered c =
     let at-size-of : tie.After-size_of = search in
     rw (at-size-of.size_of.ensures, c.piece_with_turn.ensures, c.placement_of.ensures) at c.preview.ensures.0
 
-returns-in-Shown : tie.Need-returns-in-Shown
+returns-in-Ok : tie.Need-returns-in-Ok
 unfolding outcome
-returns-in-Shown c =
+returns-in-Ok c =
     let at-start : tie.Start = search in
     let at-size-of : tie.After-size_of = search in
     let at_piece : tie.After-piece_with_turn = search in
     let at_place : tie.After-placement_of = search in
     let at-preview : tie.After-preview = search in
-    let at-figures : tie.In-Shown = search in
+    let at-figures : tie.In-Ok = search in
     let o = outcome at-start in
-    let t = figures_told_lem o (sym at-figures.in-Shown.is ∙ answered at-preview) in (
+    let t = figures_told_lem o (sym at-figures.in-Ok.is ∙ answered at-preview) in (
       c.done.ensures ∙ reply_by (λ f. f) o t,
       (
         leaves_by (λ f. f) (λ f. f.sum) _ o t,
@@ -45,18 +45,18 @@ returns-in-Shown c =
           leaves_by (λ f. f) (λ f. f.length) _ o t,
           λ zero.
               rw (at-size-of.size_of.ensures, at_piece.piece_with_turn.ensures, at_place.placement_of.ensures) at
-              (at-preview.preview.ensures.1 _ at-figures.in-Shown.is),
+              (at-preview.preview.ensures.1 _ at-figures.in-Ok.is),
         ),
       ),
     )
 
-returns-in-Refused : tie.Need-returns-in-Refused
+returns-in-Err : tie.Need-returns-in-Err
 unfolding outcome
-returns-in-Refused c =
+returns-in-Err c =
     let at-start : tie.Start = search in
     let at-preview : tie.After-preview = search in
     let o = outcome at-start in
-    let t = figures_told_lem o (sym c.in-Refused.is ∙ answered at-preview) in
+    let t = figures_told_lem o (sym c.in-Err.is ∙ answered at-preview) in
     let a = at-start.args in
     let positive =
     preview_numbered (lent_as a.rows a.columns a.count a.gap a.table.now a.pixels.now) a.layout.now a.weights.now
@@ -73,5 +73,5 @@ pub sigbrol_preview_spec : {M : Type 1} → statement M
 sigbrol_preview_spec =
     tie.close
     (tie.spec
-    (search rules) (search rules) (search rules) (search rules) (search rules) (search rules) (search rules) (search rules) returns-in-Shown
-    returns-in-Refused)
+    (search rules) (search rules) (search rules) (search rules) (search rules) (search rules) (search rules) (search rules) returns-in-Ok
+    returns-in-Err)

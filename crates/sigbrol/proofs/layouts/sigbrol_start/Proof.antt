@@ -40,39 +40,39 @@ enum_known-refusal c = search rules
 refused-requires : tie.Need-refused-requires
 refused-requires c κs = tt
 
-shape_of-layout-in-Done : tie.Need-shape_of-layout-in-Done
-shape_of-layout-in-Done c =
+shape_of-layout-in-Ok : tie.Need-shape_of-layout-in-Ok
+shape_of-layout-in-Ok c =
     let at-start : tie.After-start = search in
     at-start.start.auto.layout
 
-returns-in-Done : tie.Need-returns-in-Done
+returns-in-Ok : tie.Need-returns-in-Ok
 unfolding outcome
-returns-in-Done c =
+returns-in-Ok c =
     let at-after-start : tie.After-start = search in
     let at-size-of : tie.After-size_of = search in
     let at-start : tie.Start = search in
     let o = outcome (at-start) in
-    let t = done_told_lem o (sym c.in-Done.is ∙ answered (at-after-start)) in (
+    let t = done_told_lem o (sym c.in-Ok.is ∙ answered (at-after-start)) in (
       c.done.ensures ∙ reply_by (λ v. tt) o t,
       (
         rw at-size-of.size_of.ensures at at-after-start.start.ensures.1.0,
-        λ zero. rw at-size-of.size_of.ensures at (at-after-start.start.ensures.1.1 c.in-Done.is),
+        λ zero. rw at-size-of.size_of.ensures at (at-after-start.start.ensures.1.1 c.in-Ok.is),
       ),
     )
 
-shape_of-layout-in-Refused : tie.Need-shape_of-layout-in-Refused
-shape_of-layout-in-Refused c =
+shape_of-layout-in-Err : tie.Need-shape_of-layout-in-Err
+shape_of-layout-in-Err c =
     let at-start : tie.After-start = search in
     at-start.start.auto.layout
 
-returns-in-Refused : tie.Need-returns-in-Refused
+returns-in-Err : tie.Need-returns-in-Err
 unfolding outcome
-returns-in-Refused c =
+returns-in-Err c =
     let at-after-start : tie.After-start = search in
     let at-size-of : tie.After-size_of = search in
     let at-start : tie.Start = search in
     let o = outcome (at-start) in
-    let t = done_told_lem o (sym c.in-Refused.is ∙ answered (at-after-start)) in
+    let t = done_told_lem o (sym c.in-Err.is ∙ answered (at-after-start)) in
     let a = at-start.args in
     let positive =
     start_numbered (lent_as a.rows a.columns a.count a.gap a.table.now a.pixels.now) a.layout.now _
@@ -89,5 +89,5 @@ pub sigbrol_start_spec : {M : Type 1} → statement M
 sigbrol_start_spec =
     tie.close
     (tie.spec
-    size_of-requires start-requires enum_told-1 done-requires enum_known-refusal refused-requires shape_of-layout-in-Done returns-in-Done
-    shape_of-layout-in-Refused returns-in-Refused)
+    size_of-requires start-requires enum_told-1 done-requires enum_known-refusal refused-requires shape_of-layout-in-Ok returns-in-Ok
+    shape_of-layout-in-Err returns-in-Err)

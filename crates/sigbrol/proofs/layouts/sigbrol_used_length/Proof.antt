@@ -39,28 +39,28 @@ enum_known-refusal c = search rules
 refused-requires : tie.Need-refused-requires
 refused-requires c κs = tt
 
-returns-in-Number : tie.Need-returns-in-Number
+returns-in-Ok : tie.Need-returns-in-Ok
 unfolding outcome
-returns-in-Number c =
+returns-in-Ok c =
     let at-used-length : tie.After-used_length = search in
     let at-start : tie.Start = search in
     let o = outcome (at-start) in
-    let t = number_told_lem o (sym c.in-Number.is ∙ answered (at-used-length)) in
+    let t = number_told_lem o (sym c.in-Ok.is ∙ answered (at-used-length)) in
     let sized : tie.After-size_of = search in (
       c.done.ensures ∙ reply_by (λ k. k) o t,
       (
         leaves_by (λ k. k) (λ k. k) _ o t,
-        λ zero. rw sized.size_of.ensures at (at-used-length.used_length.ensures.1 _ c.in-Number.is),
+        λ zero. rw sized.size_of.ensures at (at-used-length.used_length.ensures.1 _ c.in-Ok.is),
       ),
     )
 
-returns-in-Refused : tie.Need-returns-in-Refused
+returns-in-Err : tie.Need-returns-in-Err
 unfolding outcome
-returns-in-Refused c =
+returns-in-Err c =
     let at-used-length : tie.After-used_length = search in
     let at-start : tie.Start = search in
     let o = outcome (at-start) in
-    let t = number_told_lem o (sym c.in-Refused.is ∙ answered (at-used-length)) in
+    let t = number_told_lem o (sym c.in-Err.is ∙ answered (at-used-length)) in
     let a = at-start.args in
     let positive =
     used_numbered (lent_as a.rows a.columns a.count a.gap a.table.now a.pixels.now) a.layout.now _ (refusal_told (λ k. k) o _ t) in
@@ -73,4 +73,4 @@ pub sigbrol_used_length_spec : {M : Type 1} → statement M
 sigbrol_used_length_spec =
     tie.close
     (tie.spec
-    size_of-requires used_length-requires enum_known-length done-requires enum_known-refusal refused-requires returns-in-Number returns-in-Refused)
+    size_of-requires used_length-requires enum_known-length done-requires enum_known-refusal refused-requires returns-in-Ok returns-in-Err)

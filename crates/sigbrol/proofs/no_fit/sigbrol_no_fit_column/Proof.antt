@@ -1,4 +1,5 @@
 -- `sigbrol::no_fit::sigbrol_no_fit_column` meets its contract by what the answer tells. Assumes nothing.
+use Rattle.std.specs.Prelude.{Ok}
 use Rattle.list_laws.proofs.Kit.{◌∙◌, ◌≡◌, ap, subst, sym, List, ℕ, arith, length, ℤ, rules}
 use mir.Syntax.{w32}
 use mir.Val.{to_z, of_z}
@@ -9,7 +10,6 @@ use Rattle.model.specs.Refusal.{Outcome}
 use Rattle.model.specs.Buffer.{turn_of}
 use Rattle.model.specs.Calls.{no_fit_call, runs_after}
 use Rattle.model.specs.declared.Direction.TheVariants.{Vertical}
-use Rattle.model.specs.declared.NumberAnswer.{NumberAnswer}
 use Rattle.call_laws.specs.NoFits.{OffsetsWithin}
 use Rattle.pair_nofit_calls.specs.Lines.{lent_stretch}
 use Rattle.c_interface.specs.Numbers.{lent_as, piece_with_turn}
@@ -33,7 +33,7 @@ Tells c o =
     let at-start : tie.Start = search in
     let left : List (List ℤ) = c.no_fit_column.new.out in
     (c.no_fit_column.result ≡ count_answer o) × ((left ≡ runs_after at-start.args.runs.now o)
-    × ((n : ℕ) → c.no_fit_column.result ≡ NumberAnswer.Number n → OffsetsWithin at-start.args.gap n left))
+    × ((n : ℕ) → c.no_fit_column.result ≡ Ok n → OffsetsWithin at-start.args.gap n left))
 
 -- they are the call's, the offset being handed on as it is
 told : (c : tie.After-no_fit_column) →
@@ -86,36 +86,36 @@ enum_known-refusal c = search rules
 refused-requires : tie.Need-refused-requires
 refused-requires c κs = tt
 
-shape_of-runs-in-Number : tie.Need-shape_of-runs-in-Number
-shape_of-runs-in-Number c =
+shape_of-runs-in-Ok : tie.Need-shape_of-runs-in-Ok
+shape_of-runs-in-Ok c =
     let at-no-fit-column : tie.After-no_fit_column = search in
     at-no-fit-column.no_fit_column.auto.out
 
-returns-in-Number : tie.Need-returns-in-Number
+returns-in-Ok : tie.Need-returns-in-Ok
 unfolding outcome Tells
-returns-in-Number c =
+returns-in-Ok c =
     let at-no-fit-column : tie.After-no_fit_column = search in
     let at-start : tie.Start = search in
     let o = outcome (at-start) at-start.args.offset in
     let p = told (at-no-fit-column) in
-    let t = count_told o (sym c.in-Number.is ∙ p.0) in (
+    let t = count_told o (sym c.in-Ok.is ∙ p.0) in (
       c.done.ensures ∙ reply_by (λ rs. length rs) o t,
-      (p.1.0, (leaves_by (λ rs. length rs) (λ n. n) _ o t, λ zero. p.1.1 _ c.in-Number.is)),
+      (p.1.0, (leaves_by (λ rs. length rs) (λ n. n) _ o t, λ zero. p.1.1 _ c.in-Ok.is)),
     )
 
-shape_of-runs-in-Refused : tie.Need-shape_of-runs-in-Refused
-shape_of-runs-in-Refused c =
+shape_of-runs-in-Err : tie.Need-shape_of-runs-in-Err
+shape_of-runs-in-Err c =
     let at-no-fit-column : tie.After-no_fit_column = search in
     at-no-fit-column.no_fit_column.auto.out
 
-returns-in-Refused : tie.Need-returns-in-Refused
+returns-in-Err : tie.Need-returns-in-Err
 unfolding outcome Tells
-returns-in-Refused c =
+returns-in-Err c =
     let at-no-fit-column : tie.After-no_fit_column = search in
     let at-start : tie.Start = search in
     let o = outcome (at-start) at-start.args.offset in
     let p = told (at-no-fit-column) in
-    let t = count_told o (sym c.in-Refused.is ∙ p.0) in
+    let t = count_told o (sym c.in-Err.is ∙ p.0) in
     let positive = no_fit_numbered Vertical _ _ _ _ _ _ (refusal_told (λ rs. length rs) o _ t) in
     let number = ap (λ (x : Reply). x.number) c.refused.ensures in (
       c.refused.ensures ∙ reply_by (λ rs. length rs) o t,
@@ -127,5 +127,5 @@ sigbrol_no_fit_column_spec =
     tie.close
     (tie.spec
     size_of-size-requires piece_with_turn-requires turn_or_zero-requires piece_with_turn-requires-2 turn_or_zero-requires-2 no_fit_column-requires
-    enum_known-found done-requires enum_known-refusal refused-requires shape_of-runs-in-Number returns-in-Number shape_of-runs-in-Refused
-    returns-in-Refused)
+    enum_known-found done-requires enum_known-refusal refused-requires shape_of-runs-in-Ok returns-in-Ok shape_of-runs-in-Err
+    returns-in-Err)

@@ -34,7 +34,7 @@ enum_known-amount : tie.Need-enum_known-amount
 enum_known-amount c = search rules
 
 overflow_cast-depth : tie.Need-overflow_cast-depth
-overflow_cast-depth c = let called : tie.After-depth = search in let small = called.depth.ensures.1 _ c.in-Number.is in search rules
+overflow_cast-depth c = let called : tie.After-depth = search in let small = called.depth.ensures.1 _ c.in-Ok.is in search rules
 
 done-requires : tie.Need-done-requires
 done-requires c κs = tt
@@ -45,22 +45,22 @@ enum_known-refusal c = search rules
 refused-requires : tie.Need-refused-requires
 refused-requires c κs = tt
 
-returns-in-Number : tie.Need-returns-in-Number
+returns-in-Ok : tie.Need-returns-in-Ok
 unfolding outcome
-returns-in-Number c =
+returns-in-Ok c =
     let at-depth : tie.After-depth = search in
     let at-start : tie.Start = search in
     let o = outcome (at-start) in
-    let t = number_told_lem o (sym c.in-Number.is ∙ answered (at-depth)) in
+    let t = number_told_lem o (sym c.in-Ok.is ∙ answered (at-depth)) in
     (c.done.ensures ∙ reply_by (λ a. a) o t, leaves_by (λ a. a) (λ a. a) _ o t)
 
-returns-in-Refused : tie.Need-returns-in-Refused
+returns-in-Err : tie.Need-returns-in-Err
 unfolding outcome
-returns-in-Refused c =
+returns-in-Err c =
     let at-depth : tie.After-depth = search in
     let at-start : tie.Start = search in
     let o = outcome (at-start) in
-    let t = number_told_lem o (sym c.in-Refused.is ∙ answered (at-depth)) in
+    let t = number_told_lem o (sym c.in-Err.is ∙ answered (at-depth)) in
     (c.refused.ensures ∙ reply_by (λ a. a) o t, leaves_by (λ a. a) (λ a. a) _ o t)
 
 pub sigbrol_depth_spec : {M : Type 1} → statement M
@@ -68,4 +68,4 @@ sigbrol_depth_spec =
     tie.close
     (tie.spec
     size_of-size-requires direction_of-requires depth-requires enum_known-amount overflow_cast-depth done-requires enum_known-refusal refused-requires
-    returns-in-Number returns-in-Refused)
+    returns-in-Ok returns-in-Err)

@@ -29,7 +29,7 @@ enum_known-amount : tie.Need-enum_known-amount
 enum_known-amount c = search rules
 
 overflow_cast-penalty : tie.Need-overflow_cast-penalty
-overflow_cast-penalty c = let called : tie.After-penalty = search in let small = called.penalty.ensures.1 _ c.in-Number.is in search rules
+overflow_cast-penalty c = let called : tie.After-penalty = search in let small = called.penalty.ensures.1 _ c.in-Ok.is in search rules
 
 done-requires : tie.Need-done-requires
 done-requires c κs = tt
@@ -40,27 +40,27 @@ enum_known-refusal c = search rules
 refused-requires : tie.Need-refused-requires
 refused-requires c κs = tt
 
-returns-in-Number : tie.Need-returns-in-Number
+returns-in-Ok : tie.Need-returns-in-Ok
 unfolding outcome
-returns-in-Number c =
+returns-in-Ok c =
     let at-penalty : tie.After-penalty = search in
     let at-start : tie.Start = search in
     let o = outcome (at-start) in
-    let t = number_told_lem o (sym c.in-Number.is ∙ answered (at-penalty)) in
+    let t = number_told_lem o (sym c.in-Ok.is ∙ answered (at-penalty)) in
     (c.done.ensures ∙ reply_by (λ a. a) o t, leaves_by (λ a. a) (λ a. a) _ o t)
 
-returns-in-Refused : tie.Need-returns-in-Refused
+returns-in-Err : tie.Need-returns-in-Err
 unfolding outcome
-returns-in-Refused c =
+returns-in-Err c =
     let at-penalty : tie.After-penalty = search in
     let at-start : tie.Start = search in
     let o = outcome (at-start) in
-    let t = number_told_lem o (sym c.in-Refused.is ∙ answered (at-penalty)) in
+    let t = number_told_lem o (sym c.in-Err.is ∙ answered (at-penalty)) in
     (c.refused.ensures ∙ reply_by (λ a. a) o t, leaves_by (λ a. a) (λ a. a) _ o t)
 
 pub sigbrol_penalty_spec : {M : Type 1} → statement M
 sigbrol_penalty_spec =
     tie.close
     (tie.spec
-    size_of-requires penalty-requires enum_known-amount overflow_cast-penalty done-requires enum_known-refusal refused-requires returns-in-Number
-    returns-in-Refused)
+    size_of-requires penalty-requires enum_known-amount overflow_cast-penalty done-requires enum_known-refusal refused-requires returns-in-Ok
+    returns-in-Err)

@@ -41,28 +41,28 @@ enum_known-refusal c = search rules
 refused-requires : tie.Need-refused-requires
 refused-requires c κs = tt
 
-returns-in-Shares : tie.Need-returns-in-Shares
+returns-in-Ok : tie.Need-returns-in-Ok
 unfolding outcome
-returns-in-Shares c =
-    let at-yes : tie.In-Shares = search in
+returns-in-Ok c =
+    let at-yes : tie.In-Ok = search in
     let at-shares-pixel : tie.After-shares_pixel = search in
     let at-start : tie.Start = search in
     let o = outcome (at-start) in
-    let t = share_told_lem o (sym at-yes.in-Shares.is ∙ answered (at-shares-pixel)) in
+    let t = share_told_lem o (sym at-yes.in-Ok.is ∙ answered (at-shares-pixel)) in
     (c.done.ensures ∙ reply_by (λ a. a) o t, c.bit_of.ensures ∙ leaves_by (λ a. a) (λ a. one_if a) _ o t)
 
-returns-in-Refused : tie.Need-returns-in-Refused
+returns-in-Err : tie.Need-returns-in-Err
 unfolding outcome
-returns-in-Refused c =
+returns-in-Err c =
     let at-shares-pixel : tie.After-shares_pixel = search in
     let at-start : tie.Start = search in
     let o = outcome (at-start) in
-    let t = share_told_lem o (sym c.in-Refused.is ∙ answered (at-shares-pixel)) in
+    let t = share_told_lem o (sym c.in-Err.is ∙ answered (at-shares-pixel)) in
     (c.refused.ensures ∙ reply_by (λ a. a) o t, leaves_by (λ a. a) (λ a. one_if a) _ o t)
 
 pub sigbrol_shares_pixel_spec : {M : Type 1} → statement M
 sigbrol_shares_pixel_spec =
     tie.close
     (tie.spec
-    size_of-requires shares_pixel-requires enum_known-yes bit_of-requires done-requires enum_known-refusal refused-requires returns-in-Shares
-    returns-in-Refused)
+    size_of-requires shares_pixel-requires enum_known-yes bit_of-requires done-requires enum_known-refusal refused-requires returns-in-Ok
+    returns-in-Err)

@@ -49,20 +49,20 @@ enum_known-refusal c = search rules
 refused-requires : tie.Need-refused-requires
 refused-requires c κs = tt
 
-shape_of-layout-in-Ended : tie.Need-shape_of-layout-in-Ended
-shape_of-layout-in-Ended c = let called : tie.After-descent = search in called.descent.auto.layout
+shape_of-layout-in-Ok : tie.Need-shape_of-layout-in-Ok
+shape_of-layout-in-Ok c = let called : tie.After-descent = search in called.descent.auto.layout
 
-returns-in-Ended : tie.Need-returns-in-Ended
+returns-in-Ok : tie.Need-returns-in-Ok
 unfolding outcome
-returns-in-Ended c =
+returns-in-Ok c =
     let put : tie.After-put_run = search in
     let number : tie.After-end_number = search in
-    let how : tie.In-Ended = search in
+    let how : tie.In-Ok = search in
     let called : tie.After-descent = search in
     let sized : tie.After-size_of = search in
     let s : tie.Start = search in
     let o = outcome s in
-    let t = ended_told_lem o (sym how.in-Ended.is ∙ answered called) in
+    let t = ended_told_lem o (sym how.in-Ok.is ∙ answered called) in
     let numbers = put.put_run.ensures in (
       c.done.ensures ∙ reply_by ended_of o t,
       (
@@ -80,7 +80,7 @@ returns-in-Ended c =
                   λ zero.
                       rw (numbers.0, numbers.1.0, numbers.1.1)
                       (descent_claimed _ _ _ _ _ _ _ number.end_number.ensures
-                      (rw sized.size_of.ensures at (called.descent.ensures.1.1.1 _ how.in-Ended.is))),
+                      (rw sized.size_of.ensures at (called.descent.ensures.1.1.1 _ how.in-Ok.is))),
                 ),
               ),
             ),
@@ -89,19 +89,19 @@ returns-in-Ended c =
       ),
     )
 
-shape_of-layout-in-Refused : tie.Need-shape_of-layout-in-Refused
-shape_of-layout-in-Refused c =
+shape_of-layout-in-Err : tie.Need-shape_of-layout-in-Err
+shape_of-layout-in-Err c =
     let at-descent : tie.After-descent = search in
     at-descent.descent.auto.layout
 
-returns-in-Refused : tie.Need-returns-in-Refused
+returns-in-Err : tie.Need-returns-in-Err
 unfolding outcome
-returns-in-Refused c =
+returns-in-Err c =
     let at-descent : tie.After-descent = search in
     let at-size-of : tie.After-size_of = search in
     let at-start : tie.Start = search in
     let o = outcome (at-start) in
-    let t = ended_told_lem o (sym c.in-Refused.is ∙ answered (at-descent)) in
+    let t = ended_told_lem o (sym c.in-Err.is ∙ answered (at-descent)) in
     let a = at-start.args in
     let positive =
     descent_numbered (lent_as a.rows a.columns a.count a.gap a.table.now a.pixels.now) a.layout.now a.weights.now a.budget _
@@ -127,5 +127,5 @@ pub sigbrol_descent_spec : {M : Type 1} → statement M
 sigbrol_descent_spec =
     tie.close (tie.spec
     size_of-requires descent-requires enum_known-ended end_number-requires (search rules) (search rules) put_run-requires done-requires
-    enum_known-refusal refused-requires shape_of-layout-in-Ended (search rules) returns-in-Ended shape_of-layout-in-Refused (search rules)
-    returns-in-Refused)
+    enum_known-refusal refused-requires shape_of-layout-in-Ok (search rules) returns-in-Ok shape_of-layout-in-Err (search rules)
+    returns-in-Err)

@@ -47,22 +47,22 @@ enum_known-refusal c = search rules
 refused-requires : tie.Need-refused-requires
 refused-requires c κs = tt
 
-shape_of-layout-in-Ran : tie.Need-shape_of-layout-in-Ran
-shape_of-layout-in-Ran c = let called : tie.After-guided_run = search in called.guided_run.auto.layout
+shape_of-layout-in-Ok : tie.Need-shape_of-layout-in-Ok
+shape_of-layout-in-Ok c = let called : tie.After-guided_run = search in called.guided_run.auto.layout
 
-shape_of-weights-in-Ran : tie.Need-shape_of-weights-in-Ran
-shape_of-weights-in-Ran c = let called : tie.After-guided_run = search in called.guided_run.auto.weights
+shape_of-weights-in-Ok : tie.Need-shape_of-weights-in-Ok
+shape_of-weights-in-Ok c = let called : tie.After-guided_run = search in called.guided_run.auto.weights
 
-returns-in-Ran : tie.Need-returns-in-Ran
+returns-in-Ok : tie.Need-returns-in-Ok
 unfolding outcome
-returns-in-Ran c =
+returns-in-Ok c =
     let put : tie.After-put_run = search in
-    let how : tie.In-Ran = search in
+    let how : tie.In-Ok = search in
     let called : tie.After-guided_run = search in
     let sized : tie.After-size_of-size = search in
     let s : tie.Start = search in
     let o = outcome s in
-    let t = ran_told_lem o (sym how.in-Ran.is ∙ answered called) in
+    let t = ran_told_lem o (sym how.in-Ok.is ∙ answered called) in
     let numbers = put.put_run.ensures in (
       c.done.ensures ∙ reply_by told_run o t,
       (
@@ -79,7 +79,7 @@ returns-in-Ran c =
                   numbers.1.1 ∙ leaves_by told_run (λ r. r.moves) _ o t,
                   λ zero.
                       rw (numbers.0, numbers.1.0, numbers.1.1)
-                      (rw sized.size_of-size.ensures at (called.guided_run.ensures.1.1.1.1 _ how.in-Ran.is)),
+                      (rw sized.size_of-size.ensures at (called.guided_run.ensures.1.1.1.1 _ how.in-Ok.is)),
                 ),
               ),
             ),
@@ -88,24 +88,24 @@ returns-in-Ran c =
       ),
     )
 
-shape_of-layout-in-Refused : tie.Need-shape_of-layout-in-Refused
-shape_of-layout-in-Refused c =
+shape_of-layout-in-Err : tie.Need-shape_of-layout-in-Err
+shape_of-layout-in-Err c =
     let at-guided-run : tie.After-guided_run = search in
     at-guided-run.guided_run.auto.layout
 
-shape_of-weights-in-Refused : tie.Need-shape_of-weights-in-Refused
-shape_of-weights-in-Refused c =
+shape_of-weights-in-Err : tie.Need-shape_of-weights-in-Err
+shape_of-weights-in-Err c =
     let at-guided-run : tie.After-guided_run = search in
     at-guided-run.guided_run.auto.weights
 
-returns-in-Refused : tie.Need-returns-in-Refused
+returns-in-Err : tie.Need-returns-in-Err
 unfolding outcome
-returns-in-Refused c =
+returns-in-Err c =
     let at-guided-run : tie.After-guided_run = search in
     let at-size-of : tie.After-size_of-size = search in
     let at-start : tie.Start = search in
     let o = outcome (at-start) in
-    let t = ran_told_lem o (sym c.in-Refused.is ∙ answered (at-guided-run)) in
+    let t = ran_told_lem o (sym c.in-Err.is ∙ answered (at-guided-run)) in
     let a = at-start.args in
     let positive =
     guided_numbered (lent_as a.rows a.columns a.count a.gap a.table.now a.pixels.now) a.layout.now a.weights.now a.rounds
@@ -131,5 +131,5 @@ pub sigbrol_guided_run_spec : {M : Type 1} → statement M
 sigbrol_guided_run_spec =
     tie.close
     (tie.spec
-    size_of-size-requires guided_run-requires enum_known-run put_run-requires done-requires enum_known-refusal refused-requires shape_of-layout-in-Ran
-    shape_of-weights-in-Ran (search rules) returns-in-Ran shape_of-layout-in-Refused shape_of-weights-in-Refused (search rules) returns-in-Refused)
+    size_of-size-requires guided_run-requires enum_known-run put_run-requires done-requires enum_known-refusal refused-requires shape_of-layout-in-Ok
+    shape_of-weights-in-Ok (search rules) returns-in-Ok shape_of-layout-in-Err shape_of-weights-in-Err (search rules) returns-in-Err)

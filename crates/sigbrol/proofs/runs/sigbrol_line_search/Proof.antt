@@ -48,8 +48,8 @@ line_of-requires c κs = tt
 line_search-requires : tie.Need-line_search-requires
 line_search-requires c κs = tt
 
-enum_known-least : tie.Need-enum_known-least
-enum_known-least c = search rules
+enum_known-best : tie.Need-enum_known-best
+enum_known-best c = search rules
 
 coordinate_number-requires : tie.Need-coordinate_number-requires
 coordinate_number-requires c κs = tt
@@ -63,30 +63,30 @@ enum_known-refusal c = search rules
 refused-requires : tie.Need-refused-requires
 refused-requires c κs = tt
 
-returns-in-Best : tie.Need-returns-in-Best
+returns-in-Ok : tie.Need-returns-in-Ok
 unfolding outcome line
-returns-in-Best c =
-    let at_least : tie.In-Best = search in
+returns-in-Ok c =
+    let at_least : tie.In-Ok = search in
     let at-line-search : tie.After-line_search = search in
     let at-start : tie.Start = search in
     let o = outcome at-start in
-    let t = best_told_lem (line at-start) o (sym at_least.in-Best.is ∙ answered (at-line-search)) in (
+    let t = best_told_lem (line at-start) o (sym at_least.in-Ok.is ∙ answered (at-line-search)) in (
       c.done.ensures ∙ reply_by (λ b. b) o t,
       (leaves_by (λ b. b) (λ b. b.sum) _ o t, c.coordinate_number.ensures ∙ leaves_by (λ b. b) (λ b. b.at) _ o t),
     )
 
-returns-in-Refused : tie.Need-returns-in-Refused
+returns-in-Err : tie.Need-returns-in-Err
 unfolding outcome line
-returns-in-Refused c =
+returns-in-Err c =
     let at-line-search : tie.After-line_search = search in
     let at-start : tie.Start = search in
     let o = outcome at-start in
-    let t = best_told_lem (line at-start) o (sym c.in-Refused.is ∙ answered (at-line-search)) in
+    let t = best_told_lem (line at-start) o (sym c.in-Err.is ∙ answered (at-line-search)) in
     (c.refused.ensures ∙ reply_by (λ b. b) o t, (leaves_by (λ b. b) (λ b. b.sum) _ o t, leaves_by (λ b. b) (λ b. b.at) _ o t))
 
 pub sigbrol_line_search_spec : {M : Type 1} → statement M
 sigbrol_line_search_spec =
     tie.close
     (tie.spec
-    size_of-size-requires piece_with_turn-requires turn_or_zero-requires line_of-requires line_search-requires enum_known-least
-    coordinate_number-requires done-requires enum_known-refusal refused-requires returns-in-Best returns-in-Refused)
+    size_of-size-requires piece_with_turn-requires turn_or_zero-requires line_of-requires line_search-requires enum_known-best
+    coordinate_number-requires done-requires enum_known-refusal refused-requires returns-in-Ok returns-in-Err)

@@ -26,25 +26,25 @@ counted : (c : tie.After-fresh-answer) →
     c.fresh-answer.new.counts ≡ counts_after at-start.args.counts.now (outcome c)
 counted c = rw c.size_of.ensures at c.fresh-answer.ensures.1
 
-returns-in-Done : tie.Need-returns-in-Done
-returns-in-Done c =
-    let at-enum-told : tie.In-Done = search in
+returns-in-Ok : tie.Need-returns-in-Ok
+returns-in-Ok c =
+    let at-enum-told : tie.In-Ok = search in
     let at-fresh : tie.After-fresh-answer = search in
     let at-start : tie.Start = search in
     let t = taken_up blank_record (outcome at-fresh) at-fresh.fresh-answer.result at-start.args.entries.now (answered at-fresh)
-    at-enum-told.in-Done.is in
+    at-enum-told.in-Ok.is in
     (c.done.ensures ∙ t.0, (c.write_record.ensures ∙ t.1, counted at-fresh))
 
-returns-in-Refused : tie.Need-returns-in-Refused
-returns-in-Refused c =
+returns-in-Err : tie.Need-returns-in-Err
+returns-in-Err c =
     let at-fresh : tie.After-fresh-answer = search in
     let at-start : tie.Start = search in
     let t = turned_down blank_record (outcome at-fresh) at-fresh.fresh-answer.result at-start.args.entries.now _ (answered at-fresh)
-    c.in-Refused.is in
+    c.in-Err.is in
     (c.refused.ensures ∙ t.0, (t.1, counted at-fresh))
 
 pub sigbrol_fresh_spec : {M : Type 1} → statement M
 sigbrol_fresh_spec =
     tie.close (tie.spec
-    (search rules) (search rules) (search rules) (search rules) (search rules) (search rules) (search rules) (search rules) returns-in-Done
-    (search rules) returns-in-Refused)
+    (search rules) (search rules) (search rules) (search rules) (search rules) (search rules) (search rules) (search rules) returns-in-Ok
+    (search rules) returns-in-Err)

@@ -48,25 +48,25 @@ counted c =
       c.placement_of.ensures,
     ) at c.lay-answer.ensures.1
 
-returns-in-Done : tie.Need-returns-in-Done
-returns-in-Done c =
-    let at-enum-told : tie.In-Done = search in
+returns-in-Ok : tie.Need-returns-in-Ok
+returns-in-Ok c =
+    let at-enum-told : tie.In-Ok = search in
     let at-lay : tie.After-lay-answer = search in
     let at-start : tie.Start = search in
     let t = taken_up (record_in at-start.args.entries.now) (outcome at-lay) at-lay.lay-answer.result
-    at-start.args.entries.now (answered at-lay) at-enum-told.in-Done.is in
+    at-start.args.entries.now (answered at-lay) at-enum-told.in-Ok.is in
     (c.done.ensures ∙ t.0, (c.write_record.ensures ∙ t.1, counted at-lay))
 
-returns-in-Refused : tie.Need-returns-in-Refused
-returns-in-Refused c =
+returns-in-Err : tie.Need-returns-in-Err
+returns-in-Err c =
     let at-lay : tie.After-lay-answer = search in
     let at-start : tie.Start = search in
     let t = turned_down (record_in at-start.args.entries.now) (outcome at-lay) at-lay.lay-answer.result at-start.args.entries.now _ (answered at-lay)
-    c.in-Refused.is in
+    c.in-Err.is in
     (c.refused.ensures ∙ t.0, (t.1, counted at-lay))
 
 pub sigbrol_lay_spec : {M : Type 1} → statement M
 sigbrol_lay_spec =
     tie.close (tie.spec
     (search rules) (search rules) (search rules) (search rules) (search rules) (search rules) (search rules) (search rules) (search rules)
-    (search rules) (search rules) returns-in-Done (search rules) returns-in-Refused)
+    (search rules) (search rules) returns-in-Ok (search rules) returns-in-Err)

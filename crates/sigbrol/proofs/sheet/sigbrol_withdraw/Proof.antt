@@ -41,25 +41,25 @@ counted c =
       at-read-record.read_record-sheet.ensures,
     ) at c.withdraw-answer.ensures.1
 
-returns-in-Done : tie.Need-returns-in-Done
-returns-in-Done c =
-    let at-enum-told : tie.In-Done = search in
+returns-in-Ok : tie.Need-returns-in-Ok
+returns-in-Ok c =
+    let at-enum-told : tie.In-Ok = search in
     let at-withdraw : tie.After-withdraw-answer = search in
     let at-start : tie.Start = search in
     let t = taken_up (record_in at-start.args.entries.now) (outcome at-withdraw) at-withdraw.withdraw-answer.result at-start.args.entries.now
-    (answered at-withdraw) at-enum-told.in-Done.is in
+    (answered at-withdraw) at-enum-told.in-Ok.is in
     (c.done.ensures ∙ t.0, (c.write_record.ensures ∙ t.1, counted at-withdraw))
 
-returns-in-Refused : tie.Need-returns-in-Refused
-returns-in-Refused c =
+returns-in-Err : tie.Need-returns-in-Err
+returns-in-Err c =
     let at-withdraw : tie.After-withdraw-answer = search in
     let at-start : tie.Start = search in
     let t = turned_down (record_in at-start.args.entries.now) (outcome at-withdraw) at-withdraw.withdraw-answer.result at-start.args.entries.now _
-    (answered at-withdraw) c.in-Refused.is in
+    (answered at-withdraw) c.in-Err.is in
     (c.refused.ensures ∙ t.0, (t.1, counted at-withdraw))
 
 pub sigbrol_withdraw_spec : {M : Type 1} → statement M
 sigbrol_withdraw_spec =
     tie.close (tie.spec
     (search rules) (search rules) (search rules) (search rules) (search rules) (search rules) (search rules) (search rules) (search rules)
-    returns-in-Done (search rules) returns-in-Refused)
+    returns-in-Ok (search rules) returns-in-Err)

@@ -53,33 +53,33 @@ enum_known-refusal c = search rules
 refused-requires : tie.Need-refused-requires
 refused-requires c κs = tt
 
-shape_of-pixels-in-Done : tie.Need-shape_of-pixels-in-Done
-shape_of-pixels-in-Done c =
+shape_of-pixels-in-Ok : tie.Need-shape_of-pixels-in-Ok
+shape_of-pixels-in-Ok c =
     let at-rebuild : tie.After-rebuild = search in
     at-rebuild.rebuild.auto.pixels
 
-returns-in-Done : tie.Need-returns-in-Done
+returns-in-Ok : tie.Need-returns-in-Ok
 unfolding outcome
-returns-in-Done c =
+returns-in-Ok c =
     let at-rebuild : tie.After-rebuild = search in
     let at-start : tie.Start = search in
     let o = outcome (at-start) in (
-      c.done.ensures ∙ reply_by (λ s. tt) o (done_told_lem o (sym c.in-Done.is ∙ answered (at-rebuild))),
+      c.done.ensures ∙ reply_by (λ s. tt) o (done_told_lem o (sym c.in-Ok.is ∙ answered (at-rebuild))),
       (left (at-rebuild), again (at-rebuild)),
     )
 
-shape_of-pixels-in-Refused : tie.Need-shape_of-pixels-in-Refused
-shape_of-pixels-in-Refused c =
+shape_of-pixels-in-Err : tie.Need-shape_of-pixels-in-Err
+shape_of-pixels-in-Err c =
     let at-rebuild : tie.After-rebuild = search in
     at-rebuild.rebuild.auto.pixels
 
-returns-in-Refused : tie.Need-returns-in-Refused
+returns-in-Err : tie.Need-returns-in-Err
 unfolding outcome
-returns-in-Refused c =
+returns-in-Err c =
     let at-rebuild : tie.After-rebuild = search in
     let at-start : tie.Start = search in
     let o = outcome (at-start) in (
-      c.refused.ensures ∙ reply_by (λ s. tt) o (done_told_lem o (sym c.in-Refused.is ∙ answered (at-rebuild))),
+      c.refused.ensures ∙ reply_by (λ s. tt) o (done_told_lem o (sym c.in-Err.is ∙ answered (at-rebuild))),
       (left (at-rebuild), again (at-rebuild)),
     )
 
@@ -87,5 +87,5 @@ pub sigbrol_rebuild_spec : {M : Type 1} → statement M
 sigbrol_rebuild_spec =
     tie.close
     (tie.spec
-    direction_of-requires rebuild-requires enum_told-1 done-requires enum_known-refusal refused-requires shape_of-pixels-in-Done returns-in-Done
-    shape_of-pixels-in-Refused returns-in-Refused)
+    direction_of-requires rebuild-requires enum_told-1 done-requires enum_known-refusal refused-requires shape_of-pixels-in-Ok returns-in-Ok
+    shape_of-pixels-in-Err returns-in-Err)

@@ -54,66 +54,66 @@ enum_known-refusal c = search rules
 refused-requires : tie.Need-refused-requires
 refused-requires c κs = tt
 
-shape_of-row_strips-in-Done : tie.Need-shape_of-row_strips-in-Done
-shape_of-row_strips-in-Done c =
+shape_of-row_strips-in-Ok : tie.Need-shape_of-row_strips-in-Ok
+shape_of-row_strips-in-Ok c =
     let at-strips : tie.After-strips = search in
     at-strips.strips.auto.row_strips
 
-shape_of-row_starts-in-Done : tie.Need-shape_of-row_starts-in-Done
-shape_of-row_starts-in-Done c =
+shape_of-row_starts-in-Ok : tie.Need-shape_of-row_starts-in-Ok
+shape_of-row_starts-in-Ok c =
     let at-strips : tie.After-strips = search in
     at-strips.strips.auto.row_starts
 
-shape_of-column_strips-in-Done : tie.Need-shape_of-column_strips-in-Done
-shape_of-column_strips-in-Done c =
+shape_of-column_strips-in-Ok : tie.Need-shape_of-column_strips-in-Ok
+shape_of-column_strips-in-Ok c =
     let at-strips : tie.After-strips = search in
     at-strips.strips.auto.column_strips
 
-shape_of-column_starts-in-Done : tie.Need-shape_of-column_starts-in-Done
-shape_of-column_starts-in-Done c =
+shape_of-column_starts-in-Ok : tie.Need-shape_of-column_starts-in-Ok
+shape_of-column_starts-in-Ok c =
     let at-strips : tie.After-strips = search in
     at-strips.strips.auto.column_starts
 
-returns-in-Done : tie.Need-returns-in-Done
+returns-in-Ok : tie.Need-returns-in-Ok
 unfolding outcome lentStores
-returns-in-Done c =
+returns-in-Ok c =
     let at-strips : tie.After-strips = search in
     let at-start : tie.Start = search in
     let o = outcome (at-start) in
-    (c.done.ensures ∙ reply_by (λ s. tt) o (done_told_lem o (sym c.in-Done.is ∙ answered (at-strips))), left (at-strips))
+    (c.done.ensures ∙ reply_by (λ s. tt) o (done_told_lem o (sym c.in-Ok.is ∙ answered (at-strips))), left (at-strips))
 
-shape_of-row_strips-in-Refused : tie.Need-shape_of-row_strips-in-Refused
-shape_of-row_strips-in-Refused c =
+shape_of-row_strips-in-Err : tie.Need-shape_of-row_strips-in-Err
+shape_of-row_strips-in-Err c =
     let at-strips : tie.After-strips = search in
     at-strips.strips.auto.row_strips
 
-shape_of-row_starts-in-Refused : tie.Need-shape_of-row_starts-in-Refused
-shape_of-row_starts-in-Refused c =
+shape_of-row_starts-in-Err : tie.Need-shape_of-row_starts-in-Err
+shape_of-row_starts-in-Err c =
     let at-strips : tie.After-strips = search in
     at-strips.strips.auto.row_starts
 
-shape_of-column_strips-in-Refused : tie.Need-shape_of-column_strips-in-Refused
-shape_of-column_strips-in-Refused c =
+shape_of-column_strips-in-Err : tie.Need-shape_of-column_strips-in-Err
+shape_of-column_strips-in-Err c =
     let at-strips : tie.After-strips = search in
     at-strips.strips.auto.column_strips
 
-shape_of-column_starts-in-Refused : tie.Need-shape_of-column_starts-in-Refused
-shape_of-column_starts-in-Refused c =
+shape_of-column_starts-in-Err : tie.Need-shape_of-column_starts-in-Err
+shape_of-column_starts-in-Err c =
     let at-strips : tie.After-strips = search in
     at-strips.strips.auto.column_starts
 
-returns-in-Refused : tie.Need-returns-in-Refused
+returns-in-Err : tie.Need-returns-in-Err
 unfolding outcome lentStores
-returns-in-Refused c =
+returns-in-Err c =
     let at-strips : tie.After-strips = search in
     let at-start : tie.Start = search in
     let o = outcome (at-start) in
-    (c.refused.ensures ∙ reply_by (λ s. tt) o (done_told_lem o (sym c.in-Refused.is ∙ answered (at-strips))), left (at-strips))
+    (c.refused.ensures ∙ reply_by (λ s. tt) o (done_told_lem o (sym c.in-Err.is ∙ answered (at-strips))), left (at-strips))
 
 pub sigbrol_strips_spec : {M : Type 1} → statement M
 sigbrol_strips_spec =
     tie.close
     (tie.spec
-    size_of-size-requires strips-requires enum_told-1 done-requires enum_known-refusal refused-requires shape_of-row_strips-in-Done
-    shape_of-row_starts-in-Done shape_of-column_strips-in-Done shape_of-column_starts-in-Done returns-in-Done shape_of-row_strips-in-Refused
-    shape_of-row_starts-in-Refused shape_of-column_strips-in-Refused shape_of-column_starts-in-Refused returns-in-Refused)
+    size_of-size-requires strips-requires enum_told-1 done-requires enum_known-refusal refused-requires shape_of-row_strips-in-Ok
+    shape_of-row_starts-in-Ok shape_of-column_strips-in-Ok shape_of-column_starts-in-Ok returns-in-Ok shape_of-row_strips-in-Err
+    shape_of-row_starts-in-Err shape_of-column_strips-in-Err shape_of-column_starts-in-Err returns-in-Err)

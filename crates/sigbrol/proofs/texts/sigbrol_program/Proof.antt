@@ -33,18 +33,18 @@ enum_known-refusal c = search rules
 refused-requires : tie.Need-refused-requires
 refused-requires c κs = tt
 
-shape_of-output-in-Number : tie.Need-shape_of-output-in-Number
-shape_of-output-in-Number c =
+shape_of-output-in-Ok : tie.Need-shape_of-output-in-Ok
+shape_of-output-in-Ok c =
     let at-print-run : tie.After-print_run = search in
     at-print-run.print_run.auto.output
 
-returns-in-Number : tie.Need-returns-in-Number
+returns-in-Ok : tie.Need-returns-in-Ok
 unfolding outcome
-returns-in-Number c =
+returns-in-Ok c =
     let at-print-run : tie.After-print_run = search in
     let at-start : tie.Start = search in
     let o = outcome (at-start) in
-    let t = count_told o (sym c.in-Number.is ∙ answered (at-print-run)) in (
+    let t = count_told o (sym c.in-Ok.is ∙ answered (at-print-run)) in (
       c.done.ensures ∙ reply_by (λ text. length text) o t,
       (
         at-print-run.print_run.ensures.1.0,
@@ -52,18 +52,18 @@ returns-in-Number c =
       ),
     )
 
-shape_of-output-in-Refused : tie.Need-shape_of-output-in-Refused
-shape_of-output-in-Refused c =
+shape_of-output-in-Err : tie.Need-shape_of-output-in-Err
+shape_of-output-in-Err c =
     let at-print-run : tie.After-print_run = search in
     at-print-run.print_run.auto.output
 
-returns-in-Refused : tie.Need-returns-in-Refused
+returns-in-Err : tie.Need-returns-in-Err
 unfolding outcome
-returns-in-Refused c =
+returns-in-Err c =
     let at-print-run : tie.After-print_run = search in
     let at-start : tie.Start = search in
     let o = outcome (at-start) in
-    let t = count_told o (sym c.in-Refused.is ∙ answered (at-print-run)) in (
+    let t = count_told o (sym c.in-Err.is ∙ answered (at-print-run)) in (
       c.refused.ensures ∙ reply_by (λ text. length text) o t,
       (
         at-print-run.print_run.ensures.1.0,
@@ -75,5 +75,5 @@ pub sigbrol_program_spec : {M : Type 1} → statement M
 sigbrol_program_spec =
     tie.close
     (tie.spec
-    print_run-requires enum_known-count done-requires enum_known-refusal refused-requires shape_of-output-in-Number (search rules) returns-in-Number
-    shape_of-output-in-Refused (search rules) returns-in-Refused)
+    print_run-requires enum_known-count done-requires enum_known-refusal refused-requires shape_of-output-in-Ok (search rules) returns-in-Ok
+    shape_of-output-in-Err (search rules) returns-in-Err)

@@ -39,39 +39,39 @@ enum_known-refusal c = search rules
 refused-requires : tie.Need-refused-requires
 refused-requires c κs = tt
 
-shape_of-layout-in-Done : tie.Need-shape_of-layout-in-Done
-shape_of-layout-in-Done c =
+shape_of-layout-in-Ok : tie.Need-shape_of-layout-in-Ok
+shape_of-layout-in-Ok c =
     let at-read-layout : tie.After-read_layout = search in
     at-read-layout.read_layout.auto.layout
 
-returns-in-Done : tie.Need-returns-in-Done
+returns-in-Ok : tie.Need-returns-in-Ok
 unfolding outcome
-returns-in-Done c =
+returns-in-Ok c =
     let at-read-layout : tie.After-read_layout = search in
     let at-size-of : tie.After-size_of = search in
     let at-start : tie.Start = search in
     let o = outcome (at-start) in
-    let t = done_told_lem o (sym c.in-Done.is ∙ answered (at-read-layout)) in
+    let t = done_told_lem o (sym c.in-Ok.is ∙ answered (at-read-layout)) in
     (c.done.ensures ∙ reply_by (λ v. tt) o t, rw at-size-of.size_of.ensures at at-read-layout.read_layout.ensures.1)
 
-shape_of-layout-in-Refused : tie.Need-shape_of-layout-in-Refused
-shape_of-layout-in-Refused c =
+shape_of-layout-in-Err : tie.Need-shape_of-layout-in-Err
+shape_of-layout-in-Err c =
     let at-read-layout : tie.After-read_layout = search in
     at-read-layout.read_layout.auto.layout
 
-returns-in-Refused : tie.Need-returns-in-Refused
+returns-in-Err : tie.Need-returns-in-Err
 unfolding outcome
-returns-in-Refused c =
+returns-in-Err c =
     let at-read-layout : tie.After-read_layout = search in
     let at-size-of : tie.After-size_of = search in
     let at-start : tie.Start = search in
     let o = outcome (at-start) in
-    let t = done_told_lem o (sym c.in-Refused.is ∙ answered (at-read-layout)) in
+    let t = done_told_lem o (sym c.in-Err.is ∙ answered (at-read-layout)) in
     (c.refused.ensures ∙ reply_by (λ v. tt) o t, rw at-size-of.size_of.ensures at at-read-layout.read_layout.ensures.1)
 
 pub sigbrol_read_layout_spec : {M : Type 1} → statement M
 sigbrol_read_layout_spec =
     tie.close
     (tie.spec
-    size_of-requires read_layout-requires enum_told-1 done-requires enum_known-refusal refused-requires shape_of-layout-in-Done returns-in-Done
-    shape_of-layout-in-Refused returns-in-Refused)
+    size_of-requires read_layout-requires enum_told-1 done-requires enum_known-refusal refused-requires shape_of-layout-in-Ok returns-in-Ok
+    shape_of-layout-in-Err returns-in-Err)

@@ -38,36 +38,36 @@ enum_known-refusal c = search rules
 refused-requires : tie.Need-refused-requires
 refused-requires c κs = tt
 
-shape_of-text-in-Number : tie.Need-shape_of-text-in-Number
-shape_of-text-in-Number c =
+shape_of-text-in-Ok : tie.Need-shape_of-text-in-Ok
+shape_of-text-in-Ok c =
     let at-write-layout : tie.After-write_layout = search in
     at-write-layout.write_layout.auto.text
 
-returns-in-Number : tie.Need-returns-in-Number
+returns-in-Ok : tie.Need-returns-in-Ok
 unfolding outcome
-returns-in-Number c =
+returns-in-Ok c =
     let at-write-layout : tie.After-write_layout = search in
     let at-size-of : tie.After-size_of = search in
     let at-start : tie.Start = search in
     let o = outcome (at-start) in
-    let t = count_told o (sym c.in-Number.is ∙ answered (at-write-layout)) in (
+    let t = count_told o (sym c.in-Ok.is ∙ answered (at-write-layout)) in (
       c.done.ensures ∙ reply_by (λ text. length text) o t,
       (rw at-size-of.size_of.ensures at at-write-layout.write_layout.ensures.1, leaves_by (λ text. length text) (λ k. k) _ o t),
     )
 
-shape_of-text-in-Refused : tie.Need-shape_of-text-in-Refused
-shape_of-text-in-Refused c =
+shape_of-text-in-Err : tie.Need-shape_of-text-in-Err
+shape_of-text-in-Err c =
     let at-write-layout : tie.After-write_layout = search in
     at-write-layout.write_layout.auto.text
 
-returns-in-Refused : tie.Need-returns-in-Refused
+returns-in-Err : tie.Need-returns-in-Err
 unfolding outcome
-returns-in-Refused c =
+returns-in-Err c =
     let at-write-layout : tie.After-write_layout = search in
     let at-size-of : tie.After-size_of = search in
     let at-start : tie.Start = search in
     let o = outcome (at-start) in
-    let t = count_told o (sym c.in-Refused.is ∙ answered (at-write-layout)) in (
+    let t = count_told o (sym c.in-Err.is ∙ answered (at-write-layout)) in (
       c.refused.ensures ∙ reply_by (λ text. length text) o t,
       (rw at-size-of.size_of.ensures at at-write-layout.write_layout.ensures.1, leaves_by (λ text. length text) (λ k. k) _ o t),
     )
@@ -76,5 +76,5 @@ pub sigbrol_write_layout_spec : {M : Type 1} → statement M
 sigbrol_write_layout_spec =
     tie.close
     (tie.spec
-    size_of-requires write_layout-requires enum_known-length done-requires enum_known-refusal refused-requires shape_of-text-in-Number
-    returns-in-Number shape_of-text-in-Refused returns-in-Refused)
+    size_of-requires write_layout-requires enum_known-length done-requires enum_known-refusal refused-requires shape_of-text-in-Ok
+    returns-in-Ok shape_of-text-in-Err returns-in-Err)
