@@ -2,16 +2,15 @@
 // and spread over nested functions, since it is too much for one; and kept maps, in a workspace that the caller lends.
 ghost use Rattle.std.specs.Prelude.{◌≡◌, ◌≤◌, List, ℕ, length, get_or};
 ghost use Rattle.model.specs.Lent.{Lent, lent_by, job_of};
-ghost use Rattle.model.specs.Calls.{budget_bound};
 ghost use Rattle.model.specs.declared.Direction.{Direction};
 ghost use Rattle.search_lines.specs.Kept.{least_maps, lines_bound, MapsReady};
 ghost use Rattle.search_shapes.specs.Shapes.{Shapes};
 ghost use Rattle.search_beside.specs.Ready.{LinesReady};
 ghost use Rattle.run_trials.specs.Trials.{TrialList};
 ghost use Rattle.run_step.specs.Ready.{LaidOut};
-ghost use Rattle.run_rounds.specs.Rounds.{InRange, Ran};
+ghost use Rattle.run_rounds.specs.Rounds.{InRange};
 ghost use Rattle.run_memory.specs.Ready.{Given};
-ghost use Rattle.run_memory.specs.Done.{Descended};
+ghost use Rattle.run_memory.specs.Done.{AloneInRange, AloneDone, RoundsDone};
 
 use layout_places::copy;
 use model::{Direction, JobSize, PIECE_BOUND, PieceEntry, PlaceEntry, StripEntry};
@@ -71,9 +70,9 @@ pub trait Plan {
 impl Plan for Alone {
     type Outcome = Ended;
 
-    ghost in_range = { λ plan. plan.budget ≤ budget_bound };
+    ghost in_range = { AloneInRange };
 
-    ghost comes_to = { λ l layout weights plan ended new raised. Descended l layout weights plan.budget ended new };
+    ghost comes_to = { AloneDone };
 
     // The descent: the weights stay as they are.
     fn carry_out(
@@ -112,7 +111,7 @@ impl Plan for Terms {
 
     ghost in_range = { InRange };
 
-    ghost comes_to = { λ l layout weights terms told new raised. Ran l layout weights terms.count terms.budget told new raised };
+    ghost comes_to = { RoundsDone };
 
     // The rounds, with a buffer for the layout at hand; the best one stands in the lent buffer.
     fn carry_out(
@@ -164,7 +163,8 @@ fn empty_maps() -> [u64; LEAST_MAPS]
     [0u64; LEAST_MAPS]
 }
 
-// The run, with a store for lines.
+// The run, with a store for lines. It keeps a frame of its own: in its caller's it would lie on the stack while `penalties_of` takes 400 KB there.
+#[inline(never)]
 fn with_lines<P: Plan>(
     size: JobSize,
     table: &[PieceEntry],
