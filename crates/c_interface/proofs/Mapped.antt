@@ -1,15 +1,30 @@
--- What `map` over an array gives, in the words of a list's `map`. Assumes nothing.
-use denote.Param.Members.{Mut, Called}
-use Rattle.std.proofs.lemmas.List.{same_lists, get_or-map}
-use Rattle.std.specs.Array.{IsMapOf}
-use Rattle.list_laws.proofs.Kit.{◌∙◌, ◌≡◌, sym, List, map, ℕ, arith, get_or, length, length-map}
+-- A list filled entry by entry with what a function makes of another list's entries. Assumes nothing.
+use Rattle.list_laws.proofs.Kit.{◌∙◌, ◌≡◌, ap, refl, sym, List, [], ◌∷◌, map, map-append, ◌+◌, ◌<◌, ◌≤◌, ℕ, add-one, arith, get_or, length, length-set, set}
+use Rattle.list_laws.proofs.Kit.{take, take_all, take-suc, take-suc-set}
 
--- what a function that always answers f gives at each element of an array
-pub map_over : {F A B : Type 0} {g : Mut F (A × Unit {0}) B} (f : A → B) (d : A) (callee : F) (xs : List A) (ys : List B) (n : ℕ)
-    → IsMapOf g callee xs ys n → length xs ≡ n → ((p : F) (x : A) (y : B) (q : F) → Called g p (x, tt) y q → y ≡ f x) → ys ≡ map f xs
-map_over f d callee xs ys n r e h =
-    let long : length ys ≡ n = r.long in
-    same_lists ys (map f xs) (r.long ∙ sym e ∙ sym (length-map xs f))
-    (λ k b l.
-    let w = r.at k d b (omega arith) in
-    h w.0 (get_or xs k d) (get_or ys k b) w.1 w.2 ∙ sym (get_or-map f xs k d b (omega arith)))
+-- the entries below i are made of those of the other list, and both lists have as many
+pub record Mapped {A B : Type 0} (f : A → B) (from : List A) (now : List B) (i : ℕ) : Type 0 where
+  pub same : length now ≡ length from
+  pub front : take i now ≡ map f (take i from)
+
+module _ {A B : Type 0} (f : A → B) (from : List A) (now : List B) where
+  -- before the first
+  pub mapped_begin : length now ≡ length from → Mapped f from now 0
+  mapped_begin e = record { same = e; front = refl }
+
+  -- one more
+  pub mapped_step : (i : ℕ) (d : A) → i < length from → Mapped f from now i → Mapped f from (set now i (f (get_or from i d))) (i + 1)
+  mapped_step i d l h =
+      let same = h.same in
+      record {
+        same = length-set now i _ ∙ same;
+        front =
+            rw (add-one i, take-suc from i d l, take-suc-set now i (f (get_or from i d)) (omega arith), h.front)
+            (sym (map-append f (take i from) (get_or from i d ∷ [])));
+      }
+
+  -- after the last
+  pub mapped_end : (i : ℕ) → length from ≤ i → Mapped f from now i → now ≡ map f from
+  mapped_end i l h =
+      let same = h.same in
+      sym (take_all i now (omega arith)) ∙ h.front ∙ ap (map f) (take_all i from l)

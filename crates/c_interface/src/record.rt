@@ -52,16 +52,23 @@ fn numbers_of(entry: Entry) -> [u16; 4]
 fn record_of(numbers: [[u16; 4]; PIECE_BOUND]) -> Record
     ensures { result ≡ record_in numbers }
 {
-    Record {
-        pieces: numbers.map(entry_of),
+    let mut pieces = [stray_entry(); PIECE_BOUND];
+    for i in 0..PIECE_BOUND {
+        pieces[i] = entry_of(numbers[i]);
     }
+    Record { pieces }
 }
 
 // The numbers of a record's 64 entries.
 fn record_numbers(sheet: Record) -> [[u16; 4]; PIECE_BOUND]
     ensures { result ≡ record_numbers sheet.pieces }
 {
-    sheet.pieces.map(numbers_of)
+    let pieces = sheet.pieces;
+    let mut numbers = [[0u16; 4]; PIECE_BOUND];
+    for piece in 0..PIECE_BOUND {
+        numbers[piece] = numbers_of(pieces[piece]);
+    }
+    numbers
 }
 
 // The record that a buffer holds.

@@ -1,12 +1,12 @@
 -- What the calls on a sheet come to, by what their checks answered, and what they answer. Assumes nothing.
-use Rattle.list_laws.proofs.Kit.{◌∙◌, ◌≡◌, ap, fun_ext, refl, sym, not, true, ⊎_elim, List, [], ◌*◌, ◌+◌, ◌-◌, ◌<◌, ℕ, eqb, get_or}
+use Rattle.list_laws.proofs.Kit.{◌∙◌, ◌≡◌, ap, fun_ext, refl, sym, not, Bool, true, false, ⊎_elim, List, [], ◌∷◌, ◌*◌, ◌+◌, ◌-◌, ◌<◌, ℕ, eqb, get_or}
 use Rattle.list_laws.proofs.Kit.{length, ext_get_or, eq-eqb, eqb-true, not-false}
 use Rattle.model.specs.Bounded.{one_if}
 use Rattle.model.specs.Layout.{Job, inside}
 use Rattle.model.specs.Lent.{Lent, job_of, lent_well}
 use Rattle.std.specs.Prelude.{Ok, Err}
-use Rattle.model.specs.Answers.{first_cause}
-use Rattle.model.specs.Refusal.{Outcome, refused, given, Cause, unless}
+use Rattle.model.specs.Answers.{done_answer, first_cause}
+use Rattle.model.specs.Refusal.{Outcome, refused, given, Cause, refusal_of, unless}
 use Rattle.model.specs.Calls.{sheet_causes, fresh_call, counts_after}
 use Rattle.model.specs.Cover.{Sheet, entry_in, map_from, covers_pixel, fresh, lay, withdraw, lay_causes, withdraw_causes, called, sheet_well}
 use Rattle.model.specs.declared.Placement.{Placement}
@@ -21,7 +21,7 @@ use Rattle.cover_laws.proofs.Counts.{LaidWell}
 use Rattle.cover_laws.proofs.Reached.{well_sound}
 use Rattle.sheet_counts.specs.Stamp.{moved, moved_by}
 use Rattle.sheet_counts.specs.declared.Change.TheVariants.{OneMore, OneLess}
-use Rattle.sheet_calls.specs.Answers.{record_of, given_answer, record_answer, answer_by, sheet_answer}
+use Rattle.sheet_calls.specs.Answers.{blank_record, record_of, given_answer, record_answer, answer_by, sheet_answer}
 use Rattle.sheet_refusals.specs.Causes.{buffer_causes}
 use Rattle.sheet_calls.specs.Ready.{SheetReady}
 use Rattle.sheet_calls.specs.declared.SheetAnswer.{SheetAnswer}
@@ -86,6 +86,26 @@ fresh_refused l room r e = refused_alone (buffer_causes l room) (fresh (job_of l
 pub fresh_given : (l : Lent) (room : ℕ) → Ok tt ≡ first_cause (buffer_causes l room) → fresh_call l room ≡ given (fresh (job_of l))
 unfolding fresh_call
 fresh_given l room e = unless_given (buffer_causes l room) (fresh (job_of l)) (passed_none (buffer_causes l room) e)
+
+-- a reply with a record beside it
+abbrev beside : Record → Outcome Sheet → SheetAnswer
+beside r o = record { reply = done_answer o; sheet = r }
+
+beside_case : (r : Record) (c : Cause) (o : Outcome Sheet) (t : Bool) → beside r o ≡ sheet_answer r o
+    → beside r (elim t as (λ _. Outcome Sheet) [ true ↦ refused (refusal_of c) | false ↦ o ])
+    ≡ sheet_answer r (elim t as (λ _. Outcome Sheet) [ true ↦ refused (refusal_of c) | false ↦ o ])
+beside_case r c o true e = refl
+beside_case r c o false e = e
+
+unless_beside : (cs : List Cause) (s : Sheet) → beside (record_of s) (unless cs s) ≡ sheet_answer (record_of s) (unless cs s)
+unfolding unless
+unless_beside [] s = refl
+unless_beside (c ∷ cs) s = beside_case (record_of s) c (unless cs s) c.there (unless_beside cs s)
+
+-- the blank record stands beside the reply whether a fresh sheet is given or refused
+pub fresh_answered : (l : Lent) (room : ℕ) → beside blank_record (fresh_call l room) ≡ sheet_answer blank_record (fresh_call l room)
+unfolding fresh_call fresh
+fresh_answered l room = unless_beside (buffer_causes l room) (fresh (job_of l))
 
 -- ── answers ──
 

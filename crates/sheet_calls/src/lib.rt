@@ -4,6 +4,7 @@
 
 ghost use Rattle.std.specs.Prelude.{◌≡◌, length};
 ghost use Rattle.model.specs.Lent.{lent_by};
+ghost use Rattle.model.specs.Answers.{done_answer};
 ghost use Rattle.model.specs.Calls.{fresh_call, lay_call, withdraw_call, counts_after};
 ghost use Rattle.sheet_calls.specs.Answers.{blank_record, record_answer, sheet_answer};
 ghost use Rattle.sheet_refusals.specs.Causes.{sheet_of};
@@ -22,28 +23,32 @@ pub struct SheetAnswer {
     pub sheet: Record,
 }
 
-// A fresh sheet's record, all counts 0, or its refusal.
+// Clears all counts, or tells why a fresh sheet is refused.
 fn make_fresh(
     size: JobSize,
     table: &[PieceEntry],
     pixels: &[u8],
     counts: &mut [u8],
-) -> Result<Record, Refusal>
-    ensures value { result ≡ record_answer (fresh_call (lent_by size table.now pixels.now) (length counts.old)) }
+) -> Result<(), Refusal>
+    ensures value { result ≡ done_answer (fresh_call (lent_by size table.now pixels.now) (length counts.old)) }
     ensures counts_after { counts.new ≡ counts_after counts.old (fresh_call (lent_by size table.now pixels.now) (length counts.old)) }
 {
     buffer_refusal(size, table, pixels, counts.len())?;
     sheet_counts::clear(counts);
-    Ok(record::blank_record())
+    Ok(())
 }
 
-// A fresh sheet: nothing is laid and all counts are 0. Refused: 8 the job, 7 a count buffer that is not W x L long.
+// A fresh sheet: nothing is laid and all counts are 0. Refused: 8 the job, 7 a count buffer that is not W x L long. The record is the same in both
+// cases, so it is made once.
 pub fn fresh(size: JobSize, table: &[PieceEntry], pixels: &[u8], counts: &mut [u8]) -> SheetAnswer
     ensures value { result ≡ sheet_answer blank_record (fresh_call (lent_by size table.now pixels.now) (length counts.old)) }
     ensures counts_after { counts.new ≡ counts_after counts.old (fresh_call (lent_by size table.now pixels.now) (length counts.old)) }
 {
-    let given = make_fresh(size, table, pixels, counts);
-    record::answer(given, record::blank_record())
+    let reply = make_fresh(size, table, pixels, counts);
+    SheetAnswer {
+        reply,
+        sheet: record::blank_record(),
+    }
 }
 
 // The record with a piece laid, its pixels counted, or the refusal of the lay.
