@@ -1,7 +1,8 @@
 -- Marks and row lines: storing them step by step, and where they stand in the text. Assumes nothing.
 use Rattle.list_laws.proofs.Kit.{◌∙◌, ◌≡◌, ap, refl, subst₂, sym, Bool, false, true, ◌⊎◌, inl, inr, List, [], ◌++◌, ◌∷◌, ◌*◌, ◌+◌, ◌<◌, ◌≤◌, suc, zero, ℕ}
 use Rattle.list_laws.proofs.Kit.{add-zero, suc-mul, arith, eqb, get_or-append, get_or, length, length-append, set, get_or-append-add, sets, eqb-false}
-use Rattle.list_laws.proofs.Kit.{eqb-true}
+use Rattle.list_laws.proofs.Kit.{eqb-true, get_or-eq_default, ne_eqb, set_out, subst, ⊎_elim}
+use Rattle.list_laws.proofs.Numbers.{below_or}
 use Rattle.model.specs.Refusal.{Outcome, refused, given, wrong_form}
 use Rattle.model.specs.Text.{byte, Reading, wrong, got, onward, after, stands_at, line_end, formed, and_then}
 use Rattle.model.specs.JobText.{row_word, pixel_mark, empty_mark, mark_at, marks_at, row_at, Rows, rows_at}
@@ -89,6 +90,31 @@ pub marks_end : (text : List ℕ) (p at : ℕ) (store : List ℕ) → fill_marks
 unfolding marks_at
 marks_end text p at store = refl
 
+-- a byte that is no mark ends the row, wherever in it
+pub marks_wrong : (text : List ℕ) (left p at x : ℕ) (store : List ℕ) → x < left → 1 < mark_bit (byte text (p + x)) → fill_marks text left p at store ≡ wrong
+marks_wrong text zero p at x store l h = absurd (omega arith)
+marks_wrong text (suc left) p at zero store l h = marks_none text left p at store (mark_none text p (subst (λ (q : ℕ). 1 < mark_bit (byte text q)) (add-zero p) h))
+marks_wrong text (suc left) p at (suc x) store l h =
+    let next : p + suc x ≡ suc p + x = omega arith in
+    let bit = mark_bit (byte text p) in
+    ⊎_elim (λ o. marks_none text left p at store (mark_none text p o))
+    (λ o.
+    marks_more text left p at bit (suc p) store (mark_read text p o)
+    ∙ marks_wrong text left (suc p) (suc at) x (set store at bit) (omega arith) (subst (λ (q : ℕ). 1 < mark_bit (byte text q)) next h)) (below_or 1 bit)
+
+-- where the store has no room from `at` on, marks leave it as it is
+pub marks_past : (text : List ℕ) (left p at : ℕ) (store : List ℕ) → ((x : ℕ) → x < left → mark_bit (byte text (p + x)) ≤ 1) → length store ≤ at
+    → fill_marks text left p at store ≡ got store (p + left)
+marks_past text zero p at store h l = marks_end text p at store ∙ ap (got store) (sym (add-zero p))
+marks_past text (suc left) p at store h l =
+    let first : mark_bit (byte text p) ≤ 1 = subst (λ (q : ℕ). mark_bit (byte text q) ≤ 1) (add-zero p) (h 0 (omega arith)) in
+    let e : suc p + left ≡ p + suc left = omega arith in
+    marks_more text left p at (mark_bit (byte text p)) (suc p) store (mark_read text p first)
+    ∙ ap (fill_marks text left (suc p) (suc at)) (set_out store at (mark_bit (byte text p)) l)
+    ∙ marks_past text left (suc p) (suc at) store
+    (λ x o. let i : p + suc x ≡ suc p + x = omega arith in subst (λ (q : ℕ). mark_bit (byte text q) ≤ 1) i (h (suc x) (omega arith))) (omega arith)
+    ∙ ap (got store) e
+
 -- what stands in the store after all
 pub stored_yes : (at : ℕ) (before last : List ℕ) (q : ℕ) (x : Reading (List ℕ)) → onward x (λ ms q. got (sets before at ms) q) ≡ got last q
     → MarksStored at before last true x
@@ -99,6 +125,14 @@ pub stored_no : (at : ℕ) (before last : List ℕ) (x : Reading (List ℕ)) →
     → MarksStored at before last false x
 stored_no at before last wrong e = refl
 stored_no at before last (got ms r) e = absurd (wrong_got (sym e))
+
+-- a row of marks that goes past the end of the text: none is read but the empty one
+pub stored_short : (text : List ℕ) (p at count : ℕ) (store : List ℕ) → length text < p + count → MarksStored at store store (eqb count 0) (marks_at text count p)
+stored_short text p at zero store l = stored_yes at store store p (marks_at text 0 p) (marks_end text p at store)
+stored_short text p at (suc left) store l =
+    let past : byte text (p + left) ≡ 0 = get_or-eq_default text 0 (omega arith) in
+    rw (ne_eqb (suc left) 0 (λ e. absurd (omega (arith, e))))
+    (stored_no at store store (marks_at text (suc left) p) (marks_wrong text (suc left) p at left store (omega arith) (rw past (omega arith))))
 
 -- a call that stored said yes
 pub record MarksKept (at : ℕ) (before last : List ℕ) (x : Reading (List ℕ)) : Type 0 where

@@ -5,7 +5,7 @@
 ghost use Rattle.std.specs.Prelude.{◌≡◌, ◌+◌, ◌*◌, ◌<◌, ◌≤◌, ◌^◌, length};
 ghost use Rattle.model.specs.JobText.{marks_at, row_at, rows_at};
 ghost use Rattle.model.specs.Lent.{side_bound};
-ghost use Rattle.job_rows.specs.Stores.{mark_bit, MarksStored, rows_answer, RowsStored};
+ghost use Rattle.job_rows.specs.Stores.{mark_bit, some_wrong, MarksStored, rows_answer, RowsStored};
 
 use job_lines::refusal;
 use model::Refusal;
@@ -24,8 +24,11 @@ fn mark_bit(b: u8) -> u8
     2
 }
 
-// Stores so many marks from position p on.
-fn fill_marks(text: &[u8], p: usize, count: usize, pixels: &mut [u8], at: usize) -> bool
+// The fewest marks that are read at once: of fewer, one after the other takes less time.
+const MANY: usize = 8;
+
+// Stores so many marks from position p on, one after the other.
+fn fill_few(text: &[u8], p: usize, count: usize, pixels: &mut [u8], at: usize) -> bool
     requires { (p ≤ length text.now + 4) × (count ≤ side_bound) × (at ≤ 2 ^ 32) }
     ensures { MarksStored at pixels.old pixels.new result (marks_at text.now count p) }
 {
@@ -37,6 +40,48 @@ fn fill_marks(text: &[u8], p: usize, count: usize, pixels: &mut [u8], at: usize)
         put_byte(pixels, at + k, bit);
     }
     true
+}
+
+// Whether one of so many bytes from position p on is no mark. It looks at all of them: without a branch between them many are read at once.
+fn some_wrong(text: &[u8], p: usize, count: usize) -> bool
+    requires { (p + count ≤ length text.now) × (count ≤ side_bound) }
+    ensures { result ≡ some_wrong text.now p count }
+{
+    let mut wrong = false;
+    for k in 0..count {
+        wrong = wrong | (1 < mark_bit(text[p + k]));
+    }
+    wrong
+}
+
+// Stores so many marks from position p on, many at once: asked first, and then stored as far as there is room.
+fn fill_many(text: &[u8], p: usize, count: usize, pixels: &mut [u8], at: usize) -> bool
+    requires { (p ≤ length text.now + 4) × (count ≤ side_bound) × (at ≤ 2 ^ 32) }
+    ensures { MarksStored at pixels.old pixels.new result (marks_at text.now count p) }
+{
+    let past = p + count;
+    if text.len() < past {
+        return count == 0;
+    }
+    if some_wrong(text, p, count) {
+        return false;
+    }
+    let room = count.min(pixels.len().saturating_sub(at));
+    for k in 0..room {
+        pixels[at + k] = mark_bit(text[p + k]);
+    }
+    true
+}
+
+// Stores so many marks from position p on.
+fn fill_marks(text: &[u8], p: usize, count: usize, pixels: &mut [u8], at: usize) -> bool
+    requires { (p ≤ length text.now + 4) × (count ≤ side_bound) × (at ≤ 2 ^ 32) }
+    ensures { MarksStored at pixels.old pixels.new result (marks_at text.now count p) }
+{
+    if count < MANY {
+        return fill_few(text, p, count, pixels, at);
+    }
+    fill_many(text, p, count, pixels, at)
 }
 
 // Stores a row line, `row,` with l marks.

@@ -1,10 +1,10 @@
--- `job_rows::fill_marks`: a mark is stored and the others are left, or the whole is of wrong form. Assumes nothing.
+-- `job_rows::fill_few`: a mark is stored and the others are left, or the whole is of wrong form. Assumes nothing.
 use Rattle.list_laws.proofs.Kit.{◌∙◌, ◌≡◌, ap, sym, ◌+◌, ◌-◌, suc, arith, set}
 use Rattle.model.specs.Text.{byte, wrong, got}
 use Rattle.model.specs.JobText.{mark_at, marks_at}
 use Rattle.job_rows.specs.Stores.{mark_bit}
 use Rattle.job_rows.proofs.Marks.{fill_marks, mark_read, mark_none, marks_more, marks_none, marks_end, stored_yes, stored_no}
-use Rattle.job_rows.proofs.fill_marks.Goals as goal
+use Rattle.job_rows.proofs.fill_few.Goals as goal
 
 pub returns-then-bit-gt1 : goal.returns-then-bit-gt1
 returns-then-bit-gt1 c =
