@@ -23,6 +23,7 @@ use model::{Column, Line, PieceEntry, PlaceEntry, Placement, Row, StripEntry, Tu
 use run_trials::{Trial, line_of, next_place, trial_at};
 use search_beside::renew_placed;
 use search_bounded::search_below;
+use search_line_sums::Least;
 use search_lines::RunSize;
 use search_sums::row_sum;
 use search_tracks::Mover;
@@ -83,7 +84,7 @@ fn try_line(
     ensures renewed { PenaltyTable (job_of (lent_by run.size table.now pixels.now)) (layout_of layout.new) run.size.count penalties.new }
     ensures ready { LinesReady (lent_by run.size table.now pixels.now) run strips.now starts.now lines.new maps.new }
 {
-    let least = search_below(
+    let least: Least = search_below(
         run, table, pixels, strips, starts, layout, weights, mover, bound, lines, maps,
     )?;
     renew_placed(

@@ -25,9 +25,9 @@ form_reading count None = wrong
 form_reading count (Some r) = got (in_front r.numbers count []) r.next
 
 -- the numbers behind the first `count` are 0, where the form is right
-abbrev pub Behind : ℕ → Option LineNumbers → Type 0
-Behind count None = Unit {0}
-Behind count (Some r) = (k : ℕ) → count ≤ k → field r.numbers k ≡ 0
+abbrev pub ZeroBehind : ℕ → Option LineNumbers → Type 0
+ZeroBehind count None = Unit {0}
+ZeroBehind count (Some r) = (k : ℕ) → count ≤ k → field r.numbers k ≡ 0
 
 -- the position after the line; 0 where the form is wrong
 abbrev pub after_form : Option LineNumbers → ℕ
@@ -37,5 +37,5 @@ after_form (Some r) = r.next
 -- the first `count` numbers are what the definition reads, the others are 0, and the line lies in the text
 pub record ReadsLine (r : Option LineNumbers) (count : ℕ) (reading : Reading (List ℕ)) (text : List ℕ) : Type 0 where
   pub same : reading ≡ form_reading count r
-  pub others : Behind count r
+  pub others : ZeroBehind count r
   pub inside : after_form r ≤ length text
